@@ -1,0 +1,3 @@
+pub mod Octets
+pub mod Causes
+pub mod NamedLemmas

@@ -1,0 +1,8 @@
+pub mod Causes
+pub mod Octets
+pub mod Names
+pub mod Named
+pub mod Plan
+pub mod Memory
+pub mod MemoryPlace
+pub mod SayOut

@@ -1,0 +1,147 @@
+ghost use Rattle.std.specs.Prelude.{◌≡◌, ◌<◌, ◌≤◌, None, false};
+ghost use Rattle.outside_io.specs.Named.{count_of};
+ghost use Rattle.outside_io.specs.SayOut.{say_faults};
+
+use crate::{Begin, IoFault, NamedValues, Place, Sink, Source};
+use acct_types::{NoMemory, Text};
+use std::alloc::Global;
+use std::fs::OpenOptions;
+use std::io::{Read, Write};
+use std::rt::Files;
+
+/// A file that is read. It tells nothing.
+pub struct FileSource<F: Read + Drop> {
+    file: F,
+    faults: u64,
+}
+
+impl<F: Read + Drop> Source for FileSource<F> {
+    ghost left = { λ _. None };
+
+    ghost faults = { λ s. s.faults };
+
+    fn read(&mut self, buf: &mut [u8]) -> Result<usize, IoFault> {
+        match self.file.read(buf) {
+            Ok(count) => Ok(count),
+            Err(_) => {
+                self.faults = self.faults.saturating_add(1);
+                Err(IoFault::Failed)
+            }
+        }
+    }
+}
+
+/// A writer of std, as a file or standard output. It tells nothing.
+#[derive(Drop)]
+pub struct SayOut<W: Write + Drop> {
+    writer: W,
+    faults: u64,
+}
+
+impl<W: Write + Drop> SayOut<W> {
+    pub fn new(writer: W) -> SayOut<W>
+        ensures { say_faults result ≡ 0 }
+    {
+        SayOut { writer, faults: 0 }
+    }
+}
+
+impl<W: Write + Drop> Sink for SayOut<W> {
+    ghost held = { λ _. None };
+
+    ghost faults = { say_faults };
+
+    fn write(&mut self, piece: &[u8]) -> Result<usize, IoFault> {
+        match self.writer.write(piece) {
+            Ok(count) if count > 0 || piece.is_empty() => Ok(count),
+            _ => {
+                self.faults = self.faults.saturating_add(1);
+                Err(IoFault::Failed)
+            }
+        }
+    }
+}
+
+/// The system's files, by path. A name that isn't UTF-8 can't be opened.
+#[derive(Drop)]
+pub struct FilePlace<R: Files + Drop> {
+    rt: R,
+    open_faults: NamedValues<u64>,
+    read_faults: NamedValues<u64>,
+    write_faults: NamedValues<u64>,
+}
+
+impl<R: Files + Drop> FilePlace<R> {
+    pub fn new(alloc: Global, rt: R) -> FilePlace<R> {
+        FilePlace {
+            rt,
+            open_faults: NamedValues::new(alloc),
+            read_faults: NamedValues::new(alloc),
+            write_faults: NamedValues::new(alloc),
+        }
+    }
+
+    fn open(&self, how: &OpenOptions, name: &Text) -> Option<R::File> {
+        let path = str::from_utf8(name.as_slice()).ok()?;
+        how.open(&self.rt, path).ok()
+    }
+}
+
+impl<R: Files + Drop> Place for FilePlace<R>
+where
+    R::File: Send,
+{
+    type In = FileSource<R::File>;
+
+    type Out = SayOut<R::File>;
+
+    ghost tells = { false };
+
+    ghost names = { λ _ _. None };
+
+    ghost taken = { λ _ _. None };
+
+    ghost open_faults = { λ place. count_of place.open_faults };
+
+    ghost read_faults = { λ place. count_of place.read_faults };
+
+    ghost write_faults = { λ place. count_of place.write_faults };
+
+    fn open_in(&mut self, name: &Text) -> Result<FileSource<R::File>, IoFault> {
+        let mut how = OpenOptions::new();
+        how.read(true);
+        match self.open(&how, name) {
+            Some(file) => Ok(FileSource { file, faults: 0 }),
+            None => {
+                self.open_faults.raise(name)?;
+                Err(IoFault::Failed)
+            }
+        }
+    }
+
+    fn close_in(&mut self, name: &Text, input: FileSource<R::File>) -> Result<(), NoMemory> {
+        let FileSource { file: _, faults } = input;
+        self.read_faults.raise_where(name, faults)
+    }
+
+    fn open_out(&mut self, name: &Text, begin: Begin) -> Result<SayOut<R::File>, IoFault> {
+        let mut how = OpenOptions::new();
+        how.create(true);
+        match begin {
+            Begin::Append => how.append(true),
+            Begin::Anew => how.write(true).truncate(true),
+        };
+        match self.open(&how, name) {
+            Some(file) => Ok(SayOut::new(file)),
+            None => {
+                self.open_faults.raise(name)?;
+                Err(IoFault::Failed)
+            }
+        }
+    }
+
+    fn close_out(&mut self, name: &Text, _: Begin, out: SayOut<R::File>) -> Result<(), IoFault> {
+        self.write_faults.raise_where(name, out.faults)?;
+        Ok(())
+    }
+}
