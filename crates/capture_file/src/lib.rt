@@ -1,0 +1,7 @@
+//! Captures: datagrams with their moments and exporters, kept in a file.
+#![tactic(auto)]
+
+mod event;
+mod flows;
+
+pub use flows::{CaptureEnd, FlowCapture, split_flows};
