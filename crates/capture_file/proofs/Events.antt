@@ -1,12 +1,11 @@
 -- The events at the front of octets, one after another.
-use Rattle.std.proofs.Common.{◌≡◌, ◌≤◌, ◌<◌, ℕ, zero, suc, ◌+◌, ◌∙◌, List, [], ◌∷◌, ◌++◌, length, take, drop, Result, Ok, Err, refl, sym, ap, subst, append_assoc, length-drop, arith}
-use Rattle.std.proofs.lemmas.List.{nil_from_length, append-nil, get_or-take, length-take-le}
-use Rattle.std.specs.Prelude.{slice_index, max}
+use Rattle.std.proofs.Common.{◌≡◌, ◌≤◌, ◌<◌, ℕ, zero, suc, ◌+◌, ◌∙◌, List, [], ◌∷◌, ◌++◌, length, take, drop, Result, Ok, Err, refl, sym, ap, append_assoc, length-drop, arith}
+use Rattle.std.proofs.lemmas.List.{nil_from_length, get_or-take, length-take-le}
 use Rattle.std.proofs.lemmas.Bool.Decides.{nat_tests}
 use Rattle.acct_types.specs.declared.datagram.Datagram.{Datagram}
 use Rattle.capture_file.specs.declared.flows.CaptureEnd.{CaptureEnd}
 use Rattle.capture_file.specs.declared.flows.CaptureEnd.TheVariants.{Ended}
-use Rattle.capture_file.specs.Event.{judged, kind_of, header_width, event_width, length_of, stamp_of, datagram_at, LONGEST}
+use Rattle.capture_file.specs.Event.{judged, kind_of, header_width, event_width, datagram_at}
 use Rattle.capture_file.specs.Capture.{events_from, end_from, datagrams_behind}
 
 -- an event of this width stands at the front
@@ -34,11 +33,11 @@ unfolding judged
 none_left most used octets none = rw (nil_from_length octets none) refl
 
 -- one event
-events_whole : (fuel most used : ℕ) (octets : List ℕ) (width : ℕ) → judged most used octets ≡ Ok width
+pub events_whole : (fuel most used : ℕ) (octets : List ℕ) (width : ℕ) → judged most used octets ≡ Ok width
     → events_from (suc fuel) most used octets ≡ take width octets ∷ events_from fuel most (used + width) (drop width octets)
 events_whole fuel most used octets width e = rw (e, events_from) refl
 
-end_whole : (fuel most used : ℕ) (octets : List ℕ) (width : ℕ) → judged most used octets ≡ Ok width
+pub end_whole : (fuel most used : ℕ) (octets : List ℕ) (width : ℕ) → judged most used octets ≡ Ok width
     → end_from (suc fuel) most used octets ≡ end_from fuel most (used + width) (drop width octets)
 end_whole fuel most used octets width e = rw (e, end_from) refl
 
@@ -47,7 +46,7 @@ pub events_none : (fuel most used : ℕ) (octets : List ℕ) (end : CaptureEnd) 
 events_none zero most used octets end e = refl
 events_none (suc fuel) most used octets end e = rw (e, events_from) refl
 
-end_none : (fuel most used : ℕ) (octets : List ℕ) (end : CaptureEnd) → judged most used octets ≡ Err end → end_from (suc fuel) most used octets ≡ end
+pub end_none : (fuel most used : ℕ) (octets : List ℕ) (end : CaptureEnd) → judged most used octets ≡ Err end → end_from (suc fuel) most used octets ≡ end
 end_none fuel most used octets end e = rw (e, end_from) refl
 
 -- an event takes an octet of the fuel at least

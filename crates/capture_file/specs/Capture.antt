@@ -1,11 +1,9 @@
 -- A capture file: the magic, and then events to the end of the file.
-use Rattle.std.specs.Prelude.{◌≡◌, ◌≤◌, ◌<◌, ◌^◌, ℕ, zero, suc, ◌+◌, Bool, List, [], ◌∷◌, ◌++◌, flat_map, length, take, drop, max, bytes_eq, codes, if◌then◌else◌, Result, Ok, Err}
+use Rattle.std.specs.Prelude.{ℕ, zero, suc, ◌+◌, Bool, List, [], ◌∷◌, length, take, drop, max, bytes_eq, codes, if◌then◌else◌, Ok, Err}
 use Rattle.acct_types.specs.declared.datagram.Datagram.{Datagram}
-use Rattle.acct_types.specs.declared.addr.Addr.{Addr}
-use Rattle.acct_types.specs.declared.addr.Addr.TheVariants.{V4, V6}
 use Rattle.capture_file.specs.declared.flows.CaptureEnd.{CaptureEnd}
 use Rattle.capture_file.specs.declared.flows.CaptureEnd.TheVariants.{Ended, BadMagic}
-use Rattle.capture_file.specs.Event.{judged, datagram_at, stamp_of, spelling_of, LONGEST}
+use Rattle.capture_file.specs.Event.{judged, datagram_at, stamp_of}
 
 -- the octets that a capture begins with
 abbrev pub magic : List ℕ

@@ -3,5 +3,6 @@
 
 mod event;
 mod flows;
+pub mod laws;
 
 pub use flows::{CaptureEnd, FlowCapture, split_flows};

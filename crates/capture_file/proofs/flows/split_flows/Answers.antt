@@ -1,8 +1,8 @@
-use Rattle.std.proofs.Common.{◌≡◌, ℕ, List, ◌++◌, length, drop, Err, Ok, sym, ◌∙◌, refl, arith, true, length-drop, ap}
+use Rattle.std.proofs.Common.{ℕ, List, ◌++◌, length, sym, ◌∙◌, arith, length-drop, ap}
 use Rattle.std.proofs.lemmas.Grind.{common_steps}
 use Rattle.std.proofs.lemmas.List.{append-nil}
 use Rattle.capture_file.specs.Event.{datagram_at}
-use Rattle.capture_file.specs.Capture.{datagrams_behind, events_from}
+use Rattle.capture_file.specs.Capture.{datagrams_behind}
 use Rattle.capture_file.proofs.Events.{datagrams_next, end_here, end_next, events_none, header_in_event, same_end, same_events, takes_some, whole_event}
 use Rattle.capture_file.proofs.flows.split_flows.Goals as goal
 
