@@ -17,17 +17,17 @@ has_magic octets = bytes_eq (take 8 octets) magic
 abbrev pub events_from : ℕ → ℕ → ℕ → List ℕ → List (List ℕ)
 events_from zero most used octets = []
 events_from (suc fuel) most used octets = elim (judged most used octets) [
-    Ok width ↦ take width octets ∷ events_from fuel most (used + width) (drop width octets)
+  | Ok width ↦ take width octets ∷ events_from fuel most (used + width) (drop width octets)
   | Err end ↦ []
-  ]
+]
 
 -- why they end there
 abbrev pub end_from : ℕ → ℕ → ℕ → List ℕ → CaptureEnd
 end_from zero most used octets = Ended
 end_from (suc fuel) most used octets = elim (judged most used octets) [
-    Ok width ↦ end_from fuel most (used + width) (drop width octets)
+  | Ok width ↦ end_from fuel most (used + width) (drop width octets)
   | Err end ↦ end
-  ]
+]
 
 -- the events of a file's octets, of which at most `most` octets are read
 abbrev pub events_of : ℕ → List ℕ → List (List ℕ)

@@ -6,3 +6,6 @@ mod flows;
 pub mod laws;
 
 pub use flows::{CaptureEnd, FlowCapture, split_flows};
+
+#[cfg(test)]
+mod tests;
