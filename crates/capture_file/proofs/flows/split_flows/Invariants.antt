@@ -1,0 +1,15 @@
+use Rattle.std.proofs.Common.{◌≡◌, ◌+◌, ◌≤◌, ◌++◌, length}
+use Rattle.capture_file.specs.Capture.{datagrams_of, end_of, events_from, end_from, datagrams_behind}
+use Rattle.capture_file.proofs.flows.split_flows.Given as goal
+
+-- the datagrams so far and those of the rest are all of them
+abbrev pub invariant-loop-end : goal.invariant-loop-end
+invariant-loop-end l = record {
+  datagrams : l.datagrams ++ datagrams_behind l.moment (events_from (length l.rest) l.most l.used l.rest) ≡ datagrams_of l.most l.octets;
+  end : end_from (length l.rest) l.most l.used l.rest ≡ end_of l.most l.octets;
+  place : 8 + l.used + length l.rest ≡ length l.octets;
+  within : l.used ≤ l.most;
+}
+
+abbrev pub decreases-loop-end : goal.decreases-loop-end
+decreases-loop-end l = length l.rest
