@@ -1,1 +1,4 @@
+pub mod Counts
 pub mod Numbers
+pub mod Order
+pub mod Prefixes

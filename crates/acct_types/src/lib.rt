@@ -7,11 +7,13 @@ mod flow;
 mod list;
 mod memory;
 pub mod numbers;
+mod order;
 mod prefix;
 
 pub use addr::Addr;
 pub use datagram::Datagram;
-pub use flow::{Counts, FlowRecord};
+pub use flow::{Counts, FlowRecord, counts_add_up};
 pub use list::{List, Octets, Text};
 pub use memory::NoMemory;
+pub use order::{addresses_are_ordered, prefixes_are_ordered};
 pub use prefix::Prefix;
