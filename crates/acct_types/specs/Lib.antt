@@ -1,3 +1,4 @@
+pub mod AddrText
 pub mod Counts
 pub mod Numbers
 pub mod Order

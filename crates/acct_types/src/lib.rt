@@ -2,6 +2,7 @@
 #![tactic(auto)]
 
 mod addr;
+mod address_text;
 mod datagram;
 mod flow;
 mod list;
@@ -11,6 +12,7 @@ mod order;
 mod prefix;
 
 pub use addr::Addr;
+pub use address_text::AddressText;
 pub use datagram::Datagram;
 pub use flow::{Counts, FlowRecord, counts_add_up};
 pub use list::{List, Octets, Text};

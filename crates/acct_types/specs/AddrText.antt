@@ -1,0 +1,42 @@
+-- Addresses as text, and back.
+use Rattle.std.specs.Prelude.{◌≡◌, ◌≢◌, ℕ, ◌^◌, ◌<◌, ◌==◌, List, Option, All, option_map, if◌then◌else◌}
+use Rattle.std.specs.Int.{w32, w128, to_be_bytes, from_be_bytes}
+use Rattle.std.specs.List.{list_any}
+use Rattle.std.specs.Net.Addr.{octets_of, segments_of}
+use Rattle.std.specs.Net.Grammar.{IsColonHex, IsDotted}
+use Rattle.std.specs.Net.Reader.{dot, read_ipv4, read_ipv6, whole_value}
+use Rattle.std.specs.Net.Text.{hex_groups_text, ipv4_text}
+use Rattle.acct_types.specs.declared.addr.Addr.{Addr}
+use Rattle.acct_types.specs.declared.addr.Addr.TheVariants.{V4, V6}
+
+-- the four octets of an IPv4 address, the highest first
+abbrev pub octets_in : ℕ → List ℕ
+octets_in n = to_be_bytes w32 n
+
+-- the eight groups of sixteen bits of an IPv6 address, the highest first
+abbrev pub groups_in : ℕ → List ℕ
+groups_in n = segments_of (to_be_bytes w128 n)
+
+-- Four decimals with dots between them; or groups in lower-case hexadecimal without leading zeros and colons between
+-- them, where `::` stands for the first of the longest runs of two zero groups or more (RFC 5952, 4.1 to 4.3).
+-- No IPv6 address ends in an IPv4 address.
+abbrev pub address_text : Addr → List ℕ
+address_text (V4 n) = ipv4_text (octets_in n)
+address_text (V6 n) = hex_groups_text (groups_in n)
+
+abbrev pub AddrFits : Addr → Type 0
+AddrFits (V4 n) = n < 2 ^ 32
+AddrFits (V6 n) = n < 2 ^ 128
+
+-- The text is four decimals below 256 without leading zeros, with dots between them; or eight groups of one to four
+-- hexadecimal digits, or fewer with one `::` that stands for one zero group or more, without a dotted tail.
+abbrev pub Spells : List ℕ → Addr → Type 0
+Spells text (V4 n) = (n < 2 ^ 32) × IsDotted text (octets_in n)
+Spells text (V6 n) = (n < 2 ^ 128) × IsColonHex text (groups_in n) × All (λ octet. octet ≢ dot) text
+
+-- the address that a text spells
+abbrev pub address_of : List ℕ → Option Addr
+address_of text =
+    if list_any (λ octet. octet == dot) text
+    then option_map (λ octets. V4 (from_be_bytes w32 octets)) (whole_value (read_ipv4 text))
+    else option_map (λ groups. V6 (from_be_bytes w128 (octets_of groups))) (whole_value (read_ipv6 text))
