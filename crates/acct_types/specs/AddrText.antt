@@ -1,5 +1,5 @@
 -- Addresses as text, and back.
-use Rattle.std.specs.Prelude.{◌≡◌, ◌≢◌, ℕ, ◌^◌, ◌<◌, ◌==◌, List, Option, All, option_map, if◌then◌else◌}
+use Rattle.std.specs.Prelude.{◌≡◌, ◌≢◌, ℕ, ◌^◌, ◌<◌, ◌==◌, ◌++◌, List, codes, decimal, Option, All, option_map, if◌then◌else◌}
 use Rattle.std.specs.Int.{w32, w128, to_be_bytes, from_be_bytes}
 use Rattle.std.specs.List.{list_any}
 use Rattle.std.specs.Net.Addr.{octets_of, segments_of}
@@ -8,6 +8,7 @@ use Rattle.std.specs.Net.Reader.{dot, read_ipv4, read_ipv6, whole_value}
 use Rattle.std.specs.Net.Text.{hex_groups_text, ipv4_text}
 use Rattle.acct_types.specs.declared.addr.Addr.{Addr}
 use Rattle.acct_types.specs.declared.addr.Addr.TheVariants.{V4, V6}
+use Rattle.acct_types.specs.declared.prefix.Prefix.{Prefix}
 
 -- the four octets of an IPv4 address, the highest first
 abbrev pub octets_in : ℕ → List ℕ
@@ -23,6 +24,10 @@ groups_in n = segments_of (to_be_bytes w128 n)
 abbrev pub address_text : Addr → List ℕ
 address_text (V4 n) = ipv4_text (octets_in n)
 address_text (V6 n) = hex_groups_text (groups_in n)
+
+-- the text of the address, a slash and the length
+abbrev pub prefix_text : Prefix → List ℕ
+prefix_text prefix = address_text prefix.addr ++ codes "/" ++ decimal prefix.len
 
 abbrev pub AddrFits : Addr → Type 0
 AddrFits (V4 n) = n < 2 ^ 32

@@ -3,20 +3,20 @@
 ghost use Rattle.std.specs.Prelude.{◌≡◌, ◌+◌, ◌*◌, ◌<◌, ◌≤◌, [], ◌∷◌, ◌++◌, Some, IfOk, OnErr, OnOk, decimal, length};
 ghost use Rattle.std.specs.Char.{digit_char};
 ghost use Rattle.std.specs.Net.Text.{groups_text, hex, hex_groups_text, ipv4_text, longest_zero_run};
-ghost use Rattle.acct_types.specs.AddrText.{address_text, groups_in, octets_in};
+ghost use Rattle.acct_types.specs.AddrText.{address_text, groups_in, octets_in, prefix_text};
 
-use crate::{Addr, NoMemory, Octets};
+use crate::{Addr, NoMemory, Octets, Prefix};
 use std::marker::Model;
 use std::net::Ipv6Addr;
 use std::{fmt, str};
 
-/// The most octets that the text of an address has.
-const LONGEST: usize = 39;
+/// The most octets that the text of a prefix has: 39 of an address, and `/128`.
+const LONGEST: usize = 43;
 
-/// The text of an address, without memory of its own. It is written from its end to its start.
+/// The text of an address or a prefix, on the stack. It is written from its end to its start.
 #[derive(Drop)]
 pub struct AddressText {
-    octets: [u8; 39],
+    octets: [u8; 43],
     start: usize,
 }
 
@@ -27,7 +27,7 @@ impl Model for AddressText {
 
     ghost view = { λ text. drop text.start text.octets };
 
-    ghost invariant = { λ text. text.start ≤ 39 };
+    ghost invariant = { λ text. text.start ≤ 43 };
 }
 
 impl AddressText {
@@ -35,10 +35,20 @@ impl AddressText {
     pub fn of(address: &Addr) -> AddressText
         ensures { result ≡ address_text address.now }
     {
-        match *address {
-            Addr::V4(number) => AddressText::of_v4(number),
-            Addr::V6(number) => AddressText::of_v6(number),
-        }
+        let mut text = AddressText::empty();
+        text.prepend_address(address);
+        text
+    }
+
+    /// The text of the address, a slash and the length.
+    pub fn of_prefix(prefix: &Prefix) -> AddressText
+        ensures { result ≡ prefix_text prefix.now }
+    {
+        let mut text = AddressText::empty();
+        text.prepend_decimal(prefix.len);
+        text.prepend(b'/');
+        text.prepend_address(&prefix.addr);
+        text
     }
 
     pub fn as_slice(&self) -> &[u8]
@@ -67,7 +77,7 @@ impl AddressText {
     }
 
     fn prepend(&mut self, octet: u8)
-        requires { length self.old < 39 }
+        requires { length self.old < 43 }
         ensures { self.new ≡ octet ∷ self.old }
     {
         self.start -= 1;
@@ -76,49 +86,57 @@ impl AddressText {
 
     #[tactic(auto, using(crate::proofs::TextLemmas::short_decimal))]
     fn prepend_decimal(&mut self, number: u8)
-        requires { length self.old + 3 ≤ 39 }
+        requires { length self.old + 3 ≤ 43 }
         ensures text { self.new ≡ decimal number ++ self.old }
         ensures short { length self.new ≤ length self.old + 3 }
     {
         self.start = itoa::write_digits(number as u64, &mut self.octets, self.start);
     }
 
-    fn of_v4(number: u32) -> AddressText
-        ensures { result ≡ ipv4_text (octets_in number) }
+    fn prepend_address(&mut self, address: &Addr)
+        requires { length self.old ≤ 4 }
+        ensures { self.new ≡ address_text address.now ++ self.old }
+    {
+        match *address {
+            Addr::V4(number) => self.prepend_v4(number),
+            Addr::V6(number) => self.prepend_v6(number),
+        }
+    }
+
+    fn prepend_v4(&mut self, number: u32)
+        requires { length self.old ≤ 4 }
+        ensures { self.new ≡ ipv4_text (octets_in number) ++ self.old }
     {
         let [a, b, c, d] = number.to_be_bytes();
-        let mut text = AddressText::empty();
-        text.prepend_decimal(d);
-        text.prepend(b'.');
-        text.prepend_decimal(c);
-        text.prepend(b'.');
-        text.prepend_decimal(b);
-        text.prepend(b'.');
-        text.prepend_decimal(a);
-        text
+        self.prepend_decimal(d);
+        self.prepend(b'.');
+        self.prepend_decimal(c);
+        self.prepend(b'.');
+        self.prepend_decimal(b);
+        self.prepend(b'.');
+        self.prepend_decimal(a);
     }
 
     #[tactic(auto, unfolding(std::specs::Net::Text::hex_groups_text, std::specs::Net::Addr::IsIpv6OfBits))]
-    fn of_v6(number: u128) -> AddressText
-        ensures { result ≡ hex_groups_text (groups_in number) }
+    fn prepend_v6(&mut self, number: u128)
+        requires { length self.old ≤ 4 }
+        ensures { self.new ≡ hex_groups_text (groups_in number) ++ self.old }
     {
         let all = Ipv6Addr::from_bits(number).segments();
         let groups = &all[..];
         let (start, count) = longest_zeros(groups);
-        let mut text = AddressText::empty();
         if count > 1 {
-            text.prepend_groups(&groups[start + count..]);
-            text.prepend(b':');
-            text.prepend(b':');
-            text.prepend_groups(&groups[..start]);
+            self.prepend_groups(&groups[start + count..]);
+            self.prepend(b':');
+            self.prepend(b':');
+            self.prepend_groups(&groups[..start]);
         } else {
-            text.prepend_groups(groups);
+            self.prepend_groups(groups);
         }
-        text
     }
 
     fn prepend_groups(&mut self, groups: &[u16])
-        requires { length self.old + 5 * length groups.now ≤ 40 }
+        requires { length self.old + 5 * length groups.now ≤ 44 }
         ensures text { self.new ≡ groups_text groups.now ++ self.old }
         ensures short { length self.new ≤ length self.old + 5 * length groups.now }
     {
@@ -132,7 +150,7 @@ impl AddressText {
 
     #[tactic(auto, unfolding(std::specs::Net::Text::hex))]
     fn prepend_group(&mut self, group: u16)
-        requires { length self.old + 4 ≤ 39 }
+        requires { length self.old + 4 ≤ 43 }
         ensures text { self.new ≡ hex group ++ self.old }
         ensures short { length self.new ≤ length self.old + 4 }
     {
@@ -159,11 +177,29 @@ impl Addr {
     }
 }
 
+impl Prefix {
+    /// Appends the text of the address, a slash and the length. After NoMemory `out` is unchanged.
+    pub fn append_text(&self, out: &mut Octets) -> Result<(), NoMemory>
+        ensures ok { OnOk result (out.new ≡ out.old ++ prefix_text self.now) }
+        ensures err { OnErr result (out.new ≡ out.old) }
+    {
+        out.extend(AddressText::of_prefix(self).as_slice())
+    }
+}
+
 impl fmt::Display for Addr {
     ghost output = { λ address. Some (address_text address) };
 
     fn fmt<W: fmt::Write>(&self, f: &mut fmt::Formatter<W>) -> fmt::Result {
         f.pad(AddressText::of(self).as_str()?)
+    }
+}
+
+impl fmt::Display for Prefix {
+    ghost output = { λ prefix. Some (prefix_text prefix) };
+
+    fn fmt<W: fmt::Write>(&self, f: &mut fmt::Formatter<W>) -> fmt::Result {
+        f.pad(AddressText::of_prefix(self).as_str()?)
     }
 }
 
