@@ -1,5 +1,5 @@
 -- Addresses as text, and back.
-use Rattle.std.specs.Prelude.{◌≡◌, ◌≢◌, ℕ, ◌^◌, ◌<◌, ◌==◌, ◌++◌, List, codes, decimal, Option, All, option_map, if◌then◌else◌}
+use Rattle.std.specs.Prelude.{◌≡◌, ◌↔◌, ℕ, ◌^◌, ◌<◌, ◌==◌, ◌++◌, Bool, false, List, Option, Some, codes, decimal, option_map, if◌then◌else◌}
 use Rattle.std.specs.Int.{w32, w128, to_be_bytes, from_be_bytes}
 use Rattle.std.specs.List.{list_any}
 use Rattle.std.specs.Net.Addr.{octets_of, segments_of}
@@ -33,15 +33,31 @@ abbrev pub AddrFits : Addr → Type 0
 AddrFits (V4 n) = n < 2 ^ 32
 AddrFits (V6 n) = n < 2 ^ 128
 
+abbrev pub has_dot : List ℕ → Bool
+has_dot text = list_any (λ octet. octet == dot) text
+
 -- The text is four decimals below 256 without leading zeros, with dots between them; or eight groups of one to four
 -- hexadecimal digits, or fewer with one `::` that stands for one zero group or more, without a dotted tail.
 abbrev pub Spells : List ℕ → Addr → Type 0
 Spells text (V4 n) = (n < 2 ^ 32) × IsDotted text (octets_in n)
-Spells text (V6 n) = (n < 2 ^ 128) × IsColonHex text (groups_in n) × All (λ octet. octet ≢ dot) text
+Spells text (V6 n) = (n < 2 ^ 128) × IsColonHex text (groups_in n) × (has_dot text ≡ false)
+
+-- the number of an IPv4 address that a text spells
+abbrev pub v4_of : List ℕ → Option ℕ
+v4_of text = option_map (λ octets. from_be_bytes w32 octets) (whole_value (read_ipv4 text))
+
+-- the number of an IPv6 address that a text spells
+abbrev pub v6_of : List ℕ → Option ℕ
+v6_of text = option_map (λ groups. from_be_bytes w128 (octets_of groups)) (whole_value (read_ipv6 text))
 
 -- the address that a text spells
 abbrev pub address_of : List ℕ → Option Addr
-address_of text =
-    if list_any (λ octet. octet == dot) text
-    then option_map (λ octets. V4 (from_be_bytes w32 octets)) (whole_value (read_ipv4 text))
-    else option_map (λ groups. V6 (from_be_bytes w128 (octets_of groups))) (whole_value (read_ipv6 text))
+address_of text = if has_dot text then option_map V4 (v4_of text) else option_map V6 (v6_of text)
+
+-- exactly the spellings of an address are read as it
+abbrev pub ReadsSpellings : Type 0
+ReadsSpellings = (text : List ℕ) (address : Addr) → (address_of text ≡ Some address) ↔ Spells text address
+
+-- the text of an address is read as that address
+abbrev pub ReadsTexts : Type 0
+ReadsTexts = (address : Addr) → AddrFits address → address_of (address_text address) ≡ Some address

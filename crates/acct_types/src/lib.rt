@@ -10,6 +10,7 @@ mod memory;
 pub mod numbers;
 mod order;
 mod prefix;
+mod reading;
 
 pub use addr::Addr;
 pub use address_text::AddressText;
@@ -19,3 +20,4 @@ pub use list::{List, Octets, Text};
 pub use memory::NoMemory;
 pub use order::{addresses_are_ordered, prefixes_are_ordered};
 pub use prefix::Prefix;
+pub use reading::{read_address, spellings_are_read, texts_are_read};
