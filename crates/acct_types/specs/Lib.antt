@@ -1,1 +1,5 @@
+pub mod AddrText
+pub mod Counts
 pub mod Numbers
+pub mod Order
+pub mod Prefixes

@@ -1,3 +1,6 @@
+ghost use Rattle.std.specs.Prelude.{◌≡◌};
+ghost use Rattle.acct_types.specs.Counts.{AddUp, CountsFit, nothing, plus};
+
 use crate::Addr;
 
 /// How much was counted.
@@ -7,6 +10,36 @@ pub struct Counts {
     pub packets: u128,
     pub flows: u128,
 }
+
+impl Counts {
+    /// Nothing was counted.
+    pub fn nothing() -> Counts
+        ensures { result ≡ nothing }
+    {
+        Counts {
+            bytes: 0,
+            packets: 0,
+            flows: 0,
+        }
+    }
+
+    /// The sums of both.
+    pub fn plus(self, other: Counts) -> Counts
+        requires { CountsFit (plus self other) }
+        ensures { result ≡ plus self other }
+    {
+        Counts {
+            bytes: self.bytes + other.bytes,
+            packets: self.packets + other.packets,
+            flows: self.flows + other.flows,
+        }
+    }
+}
+
+/// A law: the order in which counts are added changes nothing.
+pub fn counts_add_up()
+    ensures { AddUp }
+{}
 
 /// A flow, with the parts that its record has.
 #[derive(Clone, Copy, Debug, PartialEq, Eq)]

@@ -1,0 +1,7 @@
+pub mod CountLemmas
+pub mod GroupLemmas
+pub mod OrderLemmas
+pub mod PrefixLemmas
+pub mod ReadLemmas
+pub mod SpellLemmas
+pub mod TextLemmas

@@ -1,0 +1,5 @@
+use Rattle.acct_types.proofs.OrderLemmas.{prefix_cmp-total}
+use Rattle.acct_types.proofs.order.prefixes_are_ordered.Goals as goal
+
+pub returns-clause-total : goal.returns-clause-total
+returns-clause-total c = prefix_cmp-total

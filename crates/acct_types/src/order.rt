@@ -1,0 +1,22 @@
+//! Laws of the order of addresses and prefixes.
+
+ghost use Rattle.std.specs.Prelude.{◌≡◌, ◌↔◌};
+ghost use Rattle.std.specs.Cmp.{IsTotalOrder};
+ghost use Rattle.acct_types.specs.Order.{addr_cmp, prefix_cmp};
+
+use crate::{Addr, Prefix};
+use std::cmp::Ordering;
+
+/// A law: addresses are in order, V4 before V6 and then by number.
+pub fn addresses_are_ordered()
+    ensures derived { (a b : _) → ⟦<Addr as Ord>⟧.cmp a b ≡ addr_cmp a b }
+    ensures total { IsTotalOrder addr_cmp }
+    ensures equal { (a b : _) → (addr_cmp a b ≡ Ordering.Equal) ↔ (a ≡ b) }
+{}
+
+/// A law: prefixes are in order, by address and then by length.
+pub fn prefixes_are_ordered()
+    ensures derived { (p q : _) → ⟦<Prefix as Ord>⟧.cmp p q ≡ prefix_cmp p q }
+    ensures total { IsTotalOrder prefix_cmp }
+    ensures equal { (p q : _) → (prefix_cmp p q ≡ Ordering.Equal) ↔ ((p.addr ≡ q.addr) × (p.len ≡ q.len)) }
+{}
