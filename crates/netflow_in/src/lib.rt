@@ -2,6 +2,7 @@
 #![tactic(auto)]
 
 mod decoded;
+pub mod laws;
 mod refusal;
 mod version5;
 

@@ -45,14 +45,15 @@ fn datagram(version: u8, count: u8, records: usize) -> [u8; 1512] {
     octets
 }
 
-fn decode(alloc: Global, octets: &[u8]) -> Result<RawDecoded, Undecodable> {
-    decode_v5(alloc, &EXPORTER, octets)
+// the first `size` octets, decoded
+fn decode(alloc: Global, octets: &[u8], size: usize) -> Result<RawDecoded, Undecodable> {
+    decode_v5(alloc, &EXPORTER, &octets[..size.min(octets.len())])
 }
 
 #[test]
 fn a_record_field_by_field(rt: HostRuntime) -> Result<(), Fail> {
     let octets = datagram(5, 1, 1);
-    let decoded = decode(rt.alloc(), &octets[..72]).map_err(|_| "refused")?;
+    let decoded = decode(rt.alloc(), &octets, 72).map_err(|_| "refused")?;
     let [row] = decoded.rows.as_slice() else {
         return Err("not one record".into());
     };
@@ -96,7 +97,7 @@ fn a_record_field_by_field(rt: HostRuntime) -> Result<(), Fail> {
 fn as_many_records_as_the_header_counts(rt: HostRuntime) -> Result<(), Fail> {
     for (count, size) in [(1u8, 72usize), (1, 120), (2, 120), (30, 1464), (30, 1512)] {
         let octets = datagram(5, count, 31);
-        let decoded = decode(rt.alloc(), &octets[..size.min(1512)]).map_err(|_| "refused")?;
+        let decoded = decode(rt.alloc(), &octets, size).map_err(|_| "refused")?;
         assert_eq!(rt; decoded.rows.len(), usize::from(count));
         let last = decoded.rows.as_slice().last().ok_or("none")?;
         assert_eq!(rt; last.flow.dst_mask, Some(16));
@@ -115,7 +116,7 @@ fn an_interval_of_zero_is_a_rate_of_one(rt: HostRuntime) -> Result<(), Fail> {
         let mut octets = datagram(5, 1, 1);
         octets[22] = high;
         octets[23] = low;
-        let decoded = decode(rt.alloc(), &octets[..72]).map_err(|_| "refused")?;
+        let decoded = decode(rt.alloc(), &octets, 72).map_err(|_| "refused")?;
         let [row] = decoded.rows.as_slice() else {
             return Err("not one record".into());
         };
@@ -140,7 +141,7 @@ fn a_refusal_has_its_cause(rt: HostRuntime) {
     ];
     for (version, count, size, cause) in cases {
         let octets = datagram(version, count, 31);
-        let refused = decode(rt.alloc(), &octets[..size.min(1512)]).err();
+        let refused = decode(rt.alloc(), &octets, size).err();
         assert_eq!(rt; refused, Some(Undecodable::Refused(cause)));
     }
 }

@@ -1,4 +1,4 @@
-//! NetFlow version 5.
+//! NetFlow version 5, as Cisco's NetFlow export datagram format lays it out.
 
 ghost use Rattle.std.specs.Prelude.{◌≡◌, ◌≤◌, ◌*◌, length, IfOk};
 ghost use Rattle.netflow_in.specs.Refusal.{Gives};
@@ -90,7 +90,7 @@ fn read_records(
     Ok(List::from_vec(rows))
 }
 
-/// The records of a datagram of version 5. It is refused with Short below 2 octets, with Version for any other
+/// The records of a datagram of version 5 (Cisco's NetFlow export datagram format). It is refused with Short below 2 octets, with Version for any other
 /// version, with Short below the header's 24 octets, with V5Count for a count of 0 or above 30, and with V5Cut
 /// where the records aren't whole, in this order. It gives no notices.
 #[tactic(auto, unfolding(crate::specs::Version5::decoded_v5))]
