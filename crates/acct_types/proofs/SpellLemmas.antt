@@ -15,7 +15,7 @@ use Rattle.std.proofs.NetLemmas.Alphabet.{All-hex_groups_text}
 use Rattle.std.proofs.NetLemmas.Texts.{AllSegments, IsColonHex-hex_groups_text, IsDotted-ipv4_text}
 use Rattle.acct_types.specs.declared.addr.Addr.{Addr}
 use Rattle.acct_types.specs.declared.addr.Addr.TheVariants.{V4, V6}
-use Rattle.acct_types.specs.AddrText.{AddrFits, Spells, address_of, address_text, groups_in, has_dot, octets_in, v4_of, v6_of, ReadsSpellings, ReadsTexts}
+use Rattle.acct_types.specs.AddrText.{AddrFits, IsReadingOf, Spells, address_of, address_text, groups_in, has_dot, octets_in, v4_of, v6_of, ReadsSpellings, ReadsTexts}
 use Rattle.acct_types.proofs.GroupLemmas.{groups_again, groups_are, joined, joined_again, joined_is}
 use Rattle.acct_types.proofs.ReadLemmas.{dotted_has_dot, dotted_read, groups_read, no_dot_in_hex, whole_ipv4, whole_ipv6}
 
@@ -176,3 +176,7 @@ reads_spellings text address = (read_is_spelled text address, spelled_is_read te
 
 pub reads_texts : ReadsTexts
 reads_texts address fits = spelled_is_read (address_text address) address (text_spells address fits)
+
+pub is_reading : (text : List ℕ) (result : Option Addr) → result ≡ address_of text → IsReadingOf text result
+is_reading text None same = λ address spelled. cc (same, spelled_is_read text address spelled)
+is_reading text (Some address) same = read_is_spelled text address (sym same)

@@ -1,5 +1,5 @@
 -- Addresses as text, and back.
-use Rattle.std.specs.Prelude.{◌≡◌, ◌↔◌, ℕ, ◌^◌, ◌<◌, ◌==◌, ◌++◌, Bool, false, List, Option, Some, codes, decimal, option_map, if◌then◌else◌}
+use Rattle.std.specs.Prelude.{◌≡◌, ◌↔◌, ℕ, ◌^◌, ◌<◌, ◌==◌, ◌++◌, Bool, false, List, Option, Some, MatchOption, codes, decimal, option_map, if◌then◌else◌}
 use Rattle.std.specs.Int.{w32, w128, to_be_bytes, from_be_bytes}
 use Rattle.std.specs.List.{list_any}
 use Rattle.std.specs.Net.Addr.{octets_of, segments_of}
@@ -53,6 +53,10 @@ v6_of text = option_map (λ groups. from_be_bytes w128 (octets_of groups)) (whol
 -- the address that a text spells
 abbrev pub address_of : List ℕ → Option Addr
 address_of text = if has_dot text then option_map V4 (v4_of text) else option_map V6 (v6_of text)
+
+-- the result is the address that the text spells, or None where it spells none
+abbrev pub IsReadingOf : List ℕ → Option Addr → Type 0
+IsReadingOf text result = MatchOption result ((address : Addr) → ¬ (Spells text address)) (λ address. Spells text address)
 
 -- exactly the spellings of an address are read as it
 abbrev pub ReadsSpellings : Type 0

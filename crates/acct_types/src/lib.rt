@@ -11,6 +11,8 @@ pub mod numbers;
 mod order;
 mod prefix;
 mod reading;
+#[cfg(test)]
+mod tests;
 
 pub use addr::Addr;
 pub use address_text::AddressText;

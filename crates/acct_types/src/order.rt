@@ -18,5 +18,5 @@ pub fn addresses_are_ordered()
 pub fn prefixes_are_ordered()
     ensures derived { (p q : _) → ⟦<Prefix as Ord>⟧.cmp p q ≡ prefix_cmp p q }
     ensures total { IsTotalOrder prefix_cmp }
-    ensures equal { (p q : _) → (prefix_cmp p q ≡ Ordering.Equal) ↔ ((p.addr ≡ q.addr) × (p.len ≡ q.len)) }
+    ensures equal { (p q : _) → (prefix_cmp p q ≡ Ordering.Equal) ↔ (p ≡ q) }
 {}

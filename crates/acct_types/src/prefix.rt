@@ -1,5 +1,5 @@
 ghost use Rattle.std.specs.Prelude.{◌≡◌, ◌↔◌, ◌<◌, ◌≤◌, IsNone, IfSome};
-ghost use Rattle.acct_types.specs.Prefixes.{cleared_after, first_bits, last_bits, network_of, number_of, same_start, width_of};
+ghost use Rattle.acct_types.specs.Prefixes.{cleared_after, first_bits, last_bits, network_of, number_of, width_of};
 
 use crate::Addr;
 
@@ -13,6 +13,8 @@ pub struct Prefix {
 }
 
 impl Prefix {
+    ghost use Rattle.acct_types.specs.Cover.{covers};
+
     /// The first `len` bits of an address, or None where it has fewer. Takes no memory.
     #[tactic(auto, using(crate::proofs::PrefixLemmas::no_last_bits))]
     pub fn new(addr: Addr, len: u8) -> Option<Prefix>
@@ -35,7 +37,7 @@ impl Prefix {
 
     /// Whether an address is of the prefix's family and begins with its bits. Takes no memory.
     pub fn covers(&self, address: &Addr) -> bool
-        ensures { result ≡ same_start self.now.len self.now.addr address.now }
+        ensures { result ≡ covers self.now address.now }
     {
         match (self.addr, *address) {
             (Addr::V4(own), Addr::V4(other)) => start_v4(own, self.len)

@@ -1,14 +1,22 @@
 //! Addresses from text.
 
 ghost use Rattle.std.specs.Prelude.{◌≡◌};
-ghost use Rattle.acct_types.specs.AddrText.{ReadsSpellings, ReadsTexts, address_of, has_dot, v4_of, v6_of};
+ghost use Rattle.acct_types.specs.AddrText.{IsReadingOf, ReadsSpellings, ReadsTexts, address_of, has_dot, v4_of, v6_of};
 
 use crate::Addr;
 use std::net::{Ipv4Addr, Ipv6Addr};
 
 /// The address that a text spells, or None. IPv6 digits are of either case, and no dotted tail is taken
 /// (RFC 4291 section 2.2, without its third form). Takes no memory.
+#[tactic(auto, using(crate::proofs::SpellLemmas::is_reading))]
 pub fn read_address(text: &[u8]) -> Option<Addr>
+    ensures exact { IsReadingOf text.now result }
+    ensures value { result ≡ address_of text.now }
+{
+    read_either(text)
+}
+
+fn read_either(text: &[u8]) -> Option<Addr>
     ensures { result ≡ address_of text.now }
 {
     if contains_dot(text) {
