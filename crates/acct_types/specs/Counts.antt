@@ -1,5 +1,5 @@
 -- Sums of counts.
-use Rattle.std.specs.Prelude.{◌≡◌, ◌+◌, ◌<◌, ◌^◌}
+use Rattle.std.specs.Prelude.{◌≡◌, ℕ, ◌+◌, ◌<◌, ◌^◌}
 use Rattle.acct_types.specs.declared.flow.Counts.{Counts}
 
 -- the sums of both
@@ -19,3 +19,7 @@ pub record AddUp : Type 0 where
   pub grouped : (a b c : Counts) → plus (plus a b) c ≡ plus a (plus b c)
   pub swapped : (a b : Counts) → plus a b ≡ plus b a
   pub nothing_added : (c : Counts) → plus c nothing ≡ c
+
+-- each of the counts is below a limit
+abbrev pub IsBelow : ℕ → Counts → Type 0
+IsBelow limit c = (c.bytes < limit) × (c.packets < limit) × (c.flows < limit)

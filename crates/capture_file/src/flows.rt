@@ -1,4 +1,4 @@
-ghost use Rattle.std.specs.Prelude.{◌≡◌, IfOk};
+ghost use Rattle.std.specs.Prelude.{◌≡◌, IfOk, ◌≤◌, length};
 ghost use Rattle.capture_file.specs.Capture.{datagrams_of, end_of, has_magic};
 
 use crate::event::{judge, read_datagram};
@@ -41,6 +41,7 @@ fn has_magic(octets: &[u8]) -> bool
 pub fn split_flows(alloc: Global, octets: &[u8], most: u64) -> Result<FlowCapture, NoMemory>
     ensures datagrams { IfOk result (λ capture. capture.datagrams ≡ datagrams_of most octets.now) }
     ensures end { IfOk result (λ capture. capture.end ≡ end_of most octets.now) }
+    ensures count { IfOk result (λ capture. length capture.datagrams ≤ length octets.now) }
 {
     let mut datagrams = List::new(alloc);
     if !has_magic(octets) {

@@ -1,6 +1,7 @@
 //! NetFlow version 5, as Cisco's NetFlow export datagram format lays it out.
 
-ghost use Rattle.std.specs.Prelude.{◌≡◌, ◌≤◌, ◌*◌, length, IfOk};
+ghost use Rattle.std.specs.Prelude.{◌≡◌, ◌≤◌, ◌*◌, ◌^◌, All, length, IfOk};
+ghost use Rattle.acct_types.specs.Counts.{IsBelow};
 ghost use Rattle.netflow_in.specs.Refusal.{Gives};
 ghost use Rattle.netflow_in.specs.Version5.{decoded_v5, flow_of, rate_of, records_of, source_of};
 
@@ -36,7 +37,8 @@ fn rate_of(octets: &[u8]) -> u32
 // The flow of the record at the front.
 fn read_flow(exporter: Addr, source_id: u32, octets: &[u8]) -> FlowRecord
     requires { 48 ≤ length octets.now }
-    ensures { result ≡ flow_of exporter source_id octets.now }
+    ensures flow { result ≡ flow_of exporter source_id octets.now }
+    ensures counts { IsBelow (2 ^ 64) result.counts }
 {
     FlowRecord {
         exporter,
@@ -74,7 +76,9 @@ fn read_records(
     octets: &[u8],
 ) -> Result<List<RawRecord>, NoMemory>
     requires { 48 * count ≤ length octets.now }
-    ensures { IfOk result (λ rows. rows ≡ records_of exporter source_id header_rate count octets.now) }
+    ensures rows { IfOk result (λ rows. rows ≡ records_of exporter source_id header_rate count octets.now) }
+    ensures count { IfOk result (λ rows. length rows ≡ count) }
+    ensures counts { IfOk result (λ rows. All (λ row. IsBelow (2 ^ 64) row.flow.counts) rows) }
 {
     let mut rows = Vec::with_capacity(alloc, count)?;
     let mut rest = octets;
@@ -95,7 +99,9 @@ fn read_records(
 /// where the records aren't whole, in this order. It gives no notices.
 #[tactic(auto, unfolding(crate::specs::Version5::decoded_v5))]
 pub fn decode_v5(alloc: Global, exporter: &Addr, octets: &[u8]) -> Result<RawDecoded, Undecodable>
-    ensures { Gives result (decoded_v5 exporter.now octets.now) }
+    ensures answer { Gives result (decoded_v5 exporter.now octets.now) }
+    ensures few { IfOk result (λ decoded. length decoded.rows ≤ 30) }
+    ensures counts { IfOk result (λ decoded. All (λ row. IsBelow (2 ^ 64) row.flow.counts) decoded.rows) }
 {
     if octets.len() < 2 {
         return Err(Undecodable::Refused(Cause::Short));

@@ -1,4 +1,4 @@
-use Rattle.std.proofs.Common.{ℕ, List, ◌++◌, length, sym, ◌∙◌, arith, length-drop, ap}
+use Rattle.std.proofs.Common.{ℕ, List, ◌++◌, length, sym, ◌∙◌, arith, length-append, length-drop, ap}
 use Rattle.std.proofs.lemmas.Grind.{common_steps}
 use Rattle.std.proofs.lemmas.List.{append-nil}
 use Rattle.capture_file.specs.Event.{datagram_at}
@@ -15,6 +15,7 @@ loop-end-init c =
       end = rw (magic, c.after-rest.ensures) (same_end _ _ _ _ _ (omega arith) (omega (arith, length-drop 8 c.args.octets.now)));
       place = grind (arith, common_steps, left);
       within = omega arith;
+      count = rw c.new-datagrams.ensures (omega (arith, left));
     }
 
 pub returns-in-Err-clause-end : goal.returns-in-Err-clause-end
@@ -44,10 +45,12 @@ pub loop-end-preserved : goal.loop-end-preserved
 loop-end-preserved c =
     let whole = whole_event _ _ _ _ (sym c.in-Ok.ensures) in
     let here = whole.here in
+    let some = takes_some _ _ _ _ whole in
     record {
       datagrams = rw (c.in_ok-push-in-Ok.ensures.ok, c.split_at.ensures.back)
           (datagrams_next _ _ _ _ _ _ _ _ (sym c.in-Ok.ensures) (c.in_ok-datagram-in-Ok.ensures ∙ ap (datagram_at c.loop-end.moment) c.split_at.ensures.front) c.loop-end.invariant.datagrams);
       end = rw c.split_at.ensures.back (sym (end_next _ _ _ _ (sym c.in-Ok.ensures)) ∙ c.loop-end.invariant.end);
       place = rw (c.split_at.ensures.back, length-drop) (omega arith);
       within = whole.allowed;
+      count = rw (c.in_ok-push-in-Ok.ensures.ok, c.split_at.ensures.back, length-append, length-drop) (omega (arith, c.loop-end.invariant.count));
     }

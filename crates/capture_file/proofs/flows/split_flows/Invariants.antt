@@ -9,6 +9,7 @@ invariant-loop-end l = record {
   end : end_from (length l.rest) l.most l.used l.rest ≡ end_of l.most l.octets;
   place : 8 + l.used + length l.rest ≡ length l.octets;
   within : l.used ≤ l.most;
+  count : length l.datagrams + length l.rest ≤ length l.octets;
 }
 
 abbrev pub decreases-loop-end : goal.decreases-loop-end
