@@ -1,5 +1,5 @@
 -- Addresses as numbers of 32 or 128 bits, and the prefixes that cover them.
-use Rattle.std.specs.Prelude.{◌≡◌, ℕ, ◌+◌, ◌-◌, ◌*◌, ◌/◌, ◌%◌, ◌^◌, ◌<◌, ◌≤◌, ◌==◌, ◌&&◌, Bool, false}
+use Rattle.std.specs.Prelude.{ℕ, ◌-◌, ◌*◌, ◌/◌, ◌%◌, ◌^◌, ◌==◌, Bool, false}
 use Rattle.acct_types.specs.declared.addr.Addr.{Addr}
 use Rattle.acct_types.specs.declared.addr.Addr.TheVariants.{V4, V6}
 
