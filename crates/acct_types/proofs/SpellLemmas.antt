@@ -149,6 +149,7 @@ spelled_v6 text (V6 n) (Some groups) plain is h =
 spelled_v6 text (V4 n) (Some groups) plain is h = cc h
 
 pub read_is_spelled : (text : List ℕ) (address : Addr) → address_of text ≡ Some address → Spells text address
+unfolding address_of
 read_is_spelled text address = by (has_dot text) refl
   where
     by : (dotted : Bool) → has_dot text ≡ dotted → (if dotted then option_map V4 (v4_of text) else option_map V6 (v6_of text)) ≡ Some address → Spells text address
@@ -156,6 +157,7 @@ read_is_spelled text address = by (has_dot text) refl
     by false is h = spelled_v6 text address (whole_value (read_ipv6 text)) is refl h
 
 pub spelled_is_read : (text : List ℕ) (address : Addr) → Spells text address → address_of text ≡ Some address
+unfolding address_of
 spelled_is_read text (V4 n) h =
     rw (dotted_has_dot text (octets_in n) h.1, whole_ipv4 text (octets_in n) h.1) (ap (λ m. Some (V4 m)) (from_be_bytes-to_be_bytes_4 n h.0))
 spelled_is_read text (V6 n) h =
@@ -163,6 +165,7 @@ spelled_is_read text (V6 n) h =
 
 -- the text of an address spells it
 pub text_spells : (address : Addr) → AddrFits address → Spells (address_text address) address
+unfolding address_text
 text_spells (V4 n) fits =
     (fits, IsDotted-ipv4_text (octets_in n) refl (octets_below n))
 text_spells (V6 n) fits =

@@ -94,6 +94,7 @@ impl AddressText {
         self.start = itoa::write_digits(number as u64, &mut self.octets, self.start);
     }
 
+    #[tactic(auto, unfolding(crate::specs::AddrText::address_text))]
     fn prepend_address(&mut self, address: &Addr)
         requires { length self.old ≤ 4 }
         ensures { self.new ≡ address_text address.now ++ self.old }
