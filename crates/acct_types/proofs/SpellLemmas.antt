@@ -1,12 +1,11 @@
 -- A text is read as the address that it spells, and as no other.
-use Rattle.std.proofs.Common.{◌≡◌, ◌≢◌, ◌∙◌, ℕ, zero, suc, ◌+◌, ◌*◌, ◌-◌, ◌/◌, ◌%◌, ◌^◌, ◌<◌, ◌≤◌, ◌⊎◌, Bool, true, false, List, [], ◌∷◌, ◌++◌, Option, Some, None, ap, sym, refl, subst, arith, length, get_or, replicate, length-append, inl, inr, if◌then◌else◌}
+use Rattle.std.proofs.Common.{◌≡◌, ◌∙◌, ℕ, zero, suc, ◌+◌, ◌*◌, ◌-◌, ◌/◌, ◌%◌, ◌^◌, ◌<◌, ◌≤◌, Bool, true, false, List, [], ◌∷◌, ◌++◌, Option, Some, None, ap, sym, refl, subst, arith, length, get_or, replicate, length-append, inl, inr, if◌then◌else◌}
 use Rattle.std.specs.Option.{option_map}
-use Rattle.std.specs.Int.{w32, w128, to_be_bytes, from_be_bytes}
+use Rattle.std.specs.Int.{w32, w128, from_be_bytes}
 use Rattle.std.specs.Net.Addr.{octets_of, segments_of}
 use Rattle.std.specs.Net.Grammar.{IsColonHex, IsDotted, IsGroup, IsGroupsAfter}
 use Rattle.std.specs.Net.Reader.{read_ipv4, read_ipv6, whole_value}
-use Rattle.std.specs.Net.Text.{hex_groups_text, ipv4_text}
-use Rattle.std.proofs.lemmas.Bool.{cases_Bool}
+use Rattle.std.specs.Net.Text.{hex_groups_text}
 use Rattle.std.proofs.lemmas.Int.Digits.{digits_value-lt}
 use Rattle.std.proofs.lemmas.Nat.{be_bytes_4, from_be_bytes-to_be_bytes_4}
 use Rattle.std.proofs.lemmas.List.{length-replicate}
@@ -16,7 +15,7 @@ use Rattle.std.proofs.NetLemmas.Texts.{AllSegments, IsColonHex-hex_groups_text, 
 use Rattle.acct_types.specs.declared.addr.Addr.{Addr}
 use Rattle.acct_types.specs.declared.addr.Addr.TheVariants.{V4, V6}
 use Rattle.acct_types.specs.AddrText.{AddrFits, IsReadingOf, Spells, address_of, address_text, groups_in, has_dot, octets_in, v4_of, v6_of, ReadsSpellings, ReadsTexts}
-use Rattle.acct_types.proofs.GroupLemmas.{groups_again, groups_are, joined, joined_again, joined_is}
+use Rattle.acct_types.proofs.GroupLemmas.{groups_again, groups_are, joined_again, joined_is}
 use Rattle.acct_types.proofs.ReadLemmas.{dotted_has_dot, dotted_read, groups_read, no_dot_in_hex, whole_ipv4, whole_ipv6}
 
 -- ---- numbers in range
@@ -150,6 +149,7 @@ spelled_v6 text (V6 n) (Some groups) plain is h =
 spelled_v6 text (V4 n) (Some groups) plain is h = cc h
 
 pub read_is_spelled : (text : List ℕ) (address : Addr) → address_of text ≡ Some address → Spells text address
+unfolding address_of
 read_is_spelled text address = by (has_dot text) refl
   where
     by : (dotted : Bool) → has_dot text ≡ dotted → (if dotted then option_map V4 (v4_of text) else option_map V6 (v6_of text)) ≡ Some address → Spells text address
@@ -157,6 +157,7 @@ read_is_spelled text address = by (has_dot text) refl
     by false is h = spelled_v6 text address (whole_value (read_ipv6 text)) is refl h
 
 pub spelled_is_read : (text : List ℕ) (address : Addr) → Spells text address → address_of text ≡ Some address
+unfolding address_of
 spelled_is_read text (V4 n) h =
     rw (dotted_has_dot text (octets_in n) h.1, whole_ipv4 text (octets_in n) h.1) (ap (λ m. Some (V4 m)) (from_be_bytes-to_be_bytes_4 n h.0))
 spelled_is_read text (V6 n) h =
@@ -164,6 +165,7 @@ spelled_is_read text (V6 n) h =
 
 -- the text of an address spells it
 pub text_spells : (address : Addr) → AddrFits address → Spells (address_text address) address
+unfolding address_text
 text_spells (V4 n) fits =
     (fits, IsDotted-ipv4_text (octets_in n) refl (octets_below n))
 text_spells (V6 n) fits =

@@ -21,7 +21,7 @@ groups_in n = segments_of (to_be_bytes w128 n)
 -- Four decimals with dots between them; or groups in lower-case hexadecimal without leading zeros and colons between
 -- them, where `::` stands for the first of the longest runs of two zero groups or more (RFC 5952, 4.1 to 4.3).
 -- No IPv6 address ends in an IPv4 address.
-abbrev pub address_text : Addr → List ℕ
+unfoldable pub address_text : Addr → List ℕ
 address_text (V4 n) = ipv4_text (octets_in n)
 address_text (V6 n) = hex_groups_text (groups_in n)
 
@@ -29,10 +29,12 @@ address_text (V6 n) = hex_groups_text (groups_in n)
 abbrev pub prefix_text : Prefix → List ℕ
 prefix_text prefix = address_text prefix.addr ++ codes "/" ++ decimal prefix.len
 
+-- the number fits the family
 abbrev pub AddrFits : Addr → Type 0
 AddrFits (V4 n) = n < 2 ^ 32
 AddrFits (V6 n) = n < 2 ^ 128
 
+-- whether a dot stands in the text
 abbrev pub has_dot : List ℕ → Bool
 has_dot text = list_any (λ octet. octet == dot) text
 
@@ -51,7 +53,7 @@ abbrev pub v6_of : List ℕ → Option ℕ
 v6_of text = option_map (λ groups. from_be_bytes w128 (octets_of groups)) (whole_value (read_ipv6 text))
 
 -- the address that a text spells
-abbrev pub address_of : List ℕ → Option Addr
+unfoldable pub address_of : List ℕ → Option Addr
 address_of text = if has_dot text then option_map V4 (v4_of text) else option_map V6 (v6_of text)
 
 -- the result is the address that the text spells, or None where it spells none

@@ -1,5 +1,5 @@
--- Addresses as numbers of 32 or 128 bits, and the prefixes that cover them.
-use Rattle.std.specs.Prelude.{◌≡◌, ℕ, ◌+◌, ◌-◌, ◌*◌, ◌/◌, ◌%◌, ◌^◌, ◌<◌, ◌≤◌, ◌==◌, ◌&&◌, Bool, false}
+-- Addresses as numbers of 32 or 128 bits, and their first bits.
+use Rattle.std.specs.Prelude.{ℕ, ◌-◌, ◌*◌, ◌/◌, ◌%◌, ◌^◌, ◌==◌, Bool, false}
 use Rattle.acct_types.specs.declared.addr.Addr.{Addr}
 use Rattle.acct_types.specs.declared.addr.Addr.TheVariants.{V4, V6}
 
@@ -8,6 +8,7 @@ abbrev pub width_of : Addr → ℕ
 width_of (V4 n) = 32
 width_of (V6 n) = 128
 
+-- the address as a number, whatever its family
 abbrev pub number_of : Addr → ℕ
 number_of (V4 n) = n
 number_of (V6 n) = n

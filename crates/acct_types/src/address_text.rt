@@ -16,7 +16,7 @@ const LONGEST: usize = 43;
 /// The text of an address or a prefix, on the stack. It is written from its end to its start.
 #[derive(Drop)]
 pub struct AddressText {
-    octets: [u8; 43],
+    octets: [u8; LONGEST],
     start: usize,
 }
 
@@ -51,6 +51,7 @@ impl AddressText {
         text
     }
 
+    /// The octets of the text.
     pub fn as_slice(&self) -> &[u8]
         ensures { result.now ≡ self.now }
     {
@@ -77,7 +78,7 @@ impl AddressText {
     }
 
     fn prepend(&mut self, octet: u8)
-        requires { length self.old < 43 }
+        requires { length self.old < LONGEST }
         ensures { self.new ≡ octet ∷ self.old }
     {
         self.start -= 1;
@@ -86,13 +87,14 @@ impl AddressText {
 
     #[tactic(auto, using(crate::proofs::TextLemmas::short_decimal))]
     fn prepend_decimal(&mut self, number: u8)
-        requires { length self.old + 3 ≤ 43 }
+        requires { length self.old + 3 ≤ LONGEST }
         ensures text { self.new ≡ decimal number ++ self.old }
         ensures short { length self.new ≤ length self.old + 3 }
     {
         self.start = itoa::write_digits(number as u64, &mut self.octets, self.start);
     }
 
+    #[tactic(auto, unfolding(crate::specs::AddrText::address_text))]
     fn prepend_address(&mut self, address: &Addr)
         requires { length self.old ≤ 4 }
         ensures { self.new ≡ address_text address.now ++ self.old }
@@ -150,7 +152,7 @@ impl AddressText {
 
     #[tactic(auto, unfolding(std::specs::Net::Text::hex))]
     fn prepend_group(&mut self, group: u16)
-        requires { length self.old + 4 ≤ 43 }
+        requires { length self.old + 4 ≤ LONGEST }
         ensures text { self.new ≡ hex group ++ self.old }
         ensures short { length self.new ≤ length self.old + 4 }
     {

@@ -16,6 +16,7 @@ pub fn read_address(text: &[u8]) -> Option<Addr>
     read_either(text)
 }
 
+#[tactic(auto, unfolding(crate::specs::AddrText::address_of))]
 fn read_either(text: &[u8]) -> Option<Addr>
     ensures { result ≡ address_of text.now }
 {

@@ -1,4 +1,4 @@
-use Rattle.std.proofs.Common.{◌+◌, ◌≡◌, ◌≤◌, length, drop, arith, length-drop, ap}
+use Rattle.std.proofs.Common.{length, arith, length-drop, ap}
 use Rattle.acct_types.proofs.TextLemmas.{short_decimal}
 use Rattle.acct_types.proofs.address_text.AddressText.prepend_decimal.Goals as goal
 
