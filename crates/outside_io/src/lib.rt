@@ -20,3 +20,6 @@ pub use named::{Named, NamedValues};
 pub use shape::Shape;
 pub use traits::{Place, Sink, Source};
 pub use whole::{ReadOctets, read_all, read_name, write_all};
+
+#[cfg(test)]
+mod tests;
