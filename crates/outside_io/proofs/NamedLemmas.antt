@@ -1,5 +1,5 @@
 -- On the value of a name.
-use Rattle.std.proofs.Common.{◌≡◌, ◌≢◌, ◌≤◌, ◌-◌, ℕ, List, [], ◌∷◌, ◌++◌, ◌<◌, ◌+◌, suc, set, add-one, get_or, Bool, true, false, Option, None, Some, refl, ap, sym, ◌∙◌, arith, cond, length, take, length-append}
+use Rattle.std.proofs.Common.{◌≡◌, ◌≢◌, ◌≤◌, ◌-◌, ℕ, List, [], ◌∷◌, ◌++◌, ◌<◌, ◌+◌, suc, set, add-one, get_or, true, false, Option, Some, refl, ap, sym, ◌∙◌, arith, cond, length, take, length-append}
 use Rattle.std.specs.Str.{bytes_eq}
 use Rattle.std.proofs.lemmas.Slice.Eq.{bytes_eq-Decides}
 use Rattle.outside_io.specs.declared.named.Named.{Named}

@@ -2,7 +2,8 @@ ghost use Rattle.std.specs.Prelude.{◌≡◌, ◌<◌, ◌≤◌, None, false};
 ghost use Rattle.outside_io.specs.Named.{count_of};
 ghost use Rattle.outside_io.specs.SayOut.{say_faults};
 
-use crate::{Begin, IoFault, NamedValues, Place, Sink, Source};
+use crate::named::NamedValues;
+use crate::{Begin, IoFault, Place, Sink, Source};
 use acct_types::{NoMemory, Text};
 use std::alloc::Global;
 use std::fs::OpenOptions;

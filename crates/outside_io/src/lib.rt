@@ -16,7 +16,8 @@ pub use fault::{Begin, IoFault};
 pub use file_place::{FilePlace, FileSource, SayOut};
 pub use memory::{MemorySink, MemorySource};
 pub use memory_place::MemoryPlace;
-pub use named::{Named, NamedValues};
-pub use shape::Shape;
 pub use traits::{Place, Sink, Source};
 pub use whole::{ReadOctets, read_all, read_name, write_all};
+
+#[cfg(test)]
+mod tests;

@@ -8,8 +8,9 @@ ghost use Rattle.outside_io.specs.Names.{begun, Puts, PutsFront};
 ghost use Rattle.outside_io.specs.Memory.{source_left, source_most, source_plan, source_faults, sink_held, sink_most, sink_plan, sink_faults};
 ghost use Rattle.outside_io.specs.MemoryPlace.{most_of, failing_of};
 
+use crate::named::NamedValues;
 use crate::shape::Shape;
-use crate::{Begin, CallPlan, IoFault, MemorySink, MemorySource, NamedValues, Place};
+use crate::{Begin, CallPlan, IoFault, MemorySink, MemorySource, Place};
 use acct_types::{List, NoMemory, Octets, Text};
 use std::alloc::Global;
 

@@ -1,4 +1,4 @@
-use Rattle.std.proofs.Common.{◌≡◌, Some, ap, arith, ◌≤◌, length, take, drop}
+use Rattle.std.proofs.Common.{◌≡◌, arith, ◌≤◌, length, take, drop}
 use Rattle.std.proofs.lemmas.Grind.{common_steps}
 use Rattle.outside_io.proofs.Octets.{Takes-front}
 use Rattle.outside_io.proofs.memory.MemorySourceSource.read.Goals as goal

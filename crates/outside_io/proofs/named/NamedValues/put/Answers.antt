@@ -1,4 +1,4 @@
-use Rattle.std.proofs.Common.{◌≡◌, ◌<◌, ◌≤◌, length, arith, ap, set, get_or, ◌∙◌, ◌++◌, ◌∷◌, []}
+use Rattle.std.proofs.Common.{◌<◌, ◌≤◌, length, arith, ap, set, get_or, ◌∙◌, ◌++◌, ◌∷◌, []}
 use Rattle.outside_io.proofs.NamedLemmas.{PutsNamed-set, PutsNamed-push}
 use Rattle.outside_io.proofs.named.NamedValues.put.Goals as goal
 
