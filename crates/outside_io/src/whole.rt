@@ -1,4 +1,4 @@
-ghost use Rattle.std.specs.Prelude.{◌≡◌, ◌≢◌, ◌≤◌, ◌<◌, ◌⊎◌, List, ℕ, [], length, false, Some, IsTrue, IfOk, OnOk, OnErr, IsErrOf};
+ghost use Rattle.std.specs.Prelude.{◌≡◌, ◌≢◌, ◌≤◌, ◌<◌, ◌⊎◌, ◌++◌, List, ℕ, [], length, false, Some, IsTrue, IfOk, OnOk, OnErr, IsErrOf};
 ghost use Rattle.std.specs.Io.KnownBytes.{append_known, IsAtEnd};
 ghost use Rattle.outside_io.specs.Causes.{HasCause, Rose, RisesAt};
 ghost use Rattle.outside_io.specs.Octets.{Takes, WritesFront};
@@ -80,6 +80,7 @@ pub fn read_name<P: Place>(
     most: usize,
 ) -> Result<Octets, IoFault>
     ensures whole { IsTrue P.tells → IfOk result (λ octets. length octets < most → P.names place.old name.now ≡ Some octets) }
+    ensures front { IsTrue P.tells → IfOk result (λ octets. (rest : List ℕ) × (P.names place.old name.now ≡ Some (octets ++ rest))) }
     ensures bound { IfOk result (λ octets. length octets ≤ most) }
     ensures names { IsTrue P.tells → P.names place.new ≡ P.names place.old }
     ensures taken { IsTrue P.tells → IfOk result (λ octets. P.taken place.new name.now ≡ Some octets) }

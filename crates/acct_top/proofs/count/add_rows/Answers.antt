@@ -1,0 +1,12 @@
+use Rattle.std.proofs.Common.{◌≡◌, ◌+◌, ◌^◌, arith, get_or}
+use Rattle.acct_types.specs.Counts.{IsBelow}
+use Rattle.acct_top.proofs.CountLemmas.{bounded_more, record_added}
+use Rattle.acct_top.proofs.count.add_rows.Goals as goal
+
+pub loop-row-preserved : goal.loop-row-preserved
+loop-row-preserved c =
+    let kept = c.loop-row.invariant in
+    record {
+      sums = record_added _ _ _ c.args.rows.now c.loop-row.row-index _ _ c.loop-row-test.true kept.sums c.key_of.ensures c.in_ok-add.ensures.ok;
+      bounded = bounded_more _ _ _ _ (c.args.counted + c.loop-row.row-index) _ c.in_ok-add.ensures.ok kept.bounded (c.requires.small c.loop-row.row-index _ c.loop-row-test.true) (omega arith);
+    }

@@ -1,0 +1,115 @@
+ghost use Rattle.std.specs.Prelude.{◌≡◌, ◌++◌, ◌⊎◌, IfOk, OnOk, decimal};
+ghost use Rattle.outside_io.specs.Causes.{Rose};
+ghost use Rattle.acct_top.specs.Say.{answer_line, answer_text, cause_text, side_text, tool_name, usage_line, SaysAnswer};
+ghost use Rattle.acct_top.specs.Said.{IsSaidAs};
+
+use crate::{Answer, AnyCause, Tool};
+use acct_types::{NoMemory, Octets, Text};
+use itoa::{Buffer, Integer};
+use outside_io::{IoFault, Sink, write_all};
+use std::alloc::Global;
+
+fn tool_name(tool: Tool) -> &'static [u8]
+    ensures { result.now ≡ tool_name tool }
+{
+    match tool {
+        Tool::Nfacctd => b"nfacctd",
+    }
+}
+
+#[tactic(auto, unfolding(crate::specs::Say::usage_line))]
+fn usage_line(tool: Tool) -> &'static [u8]
+    ensures { result.now ≡ usage_line tool }
+{
+    match tool {
+        Tool::Nfacctd => b"usage: nfacctd -f FILE | --generate NUMBER\n",
+    }
+}
+
+fn cause_text(cause: AnyCause) -> &'static [u8]
+    ensures { result.now ≡ cause_text cause }
+{
+    match cause {
+        AnyCause::Config(_) => b"not-in-profile",
+        AnyCause::TooLong => b"too-long",
+    }
+}
+
+fn push_number<I: Integer>(out: &mut Octets, number: I) -> Result<(), NoMemory>
+    ensures { OnOk result (out.new ≡ out.old ++ I.text number) }
+{
+    let mut buffer = Buffer::new();
+    out.extend(buffer.format(number).as_bytes())
+}
+
+fn push_name(out: &mut Octets, head: &[u8], name: &Text) -> Result<(), NoMemory>
+    ensures { OnOk result (out.new ≡ out.old ++ (head.now ++ name.now)) }
+{
+    out.extend(head)?;
+    out.extend(name.as_slice())
+}
+
+// Appends what is said behind the program's name.
+fn push_answer(out: &mut Octets, answer: &Answer) -> Result<(), NoMemory>
+    ensures { OnOk result (out.new ≡ out.old ++ answer_text answer.now) }
+{
+    match answer {
+        Answer::Done | Answer::SayFault => out.extend(b"done"),
+        Answer::Usage => Ok(()),
+        Answer::ConfigRefused { file, line, cause } => {
+            out.extend(file.as_slice())?;
+            out.extend(b":")?;
+            push_number(out, *line)?;
+            out.extend(b": ")?;
+            out.extend(cause_text(*cause))
+        }
+        Answer::OpenFault { name } => push_name(out, b"cannot open ", name),
+        Answer::FlowFault => out.extend(b"flow input failed"),
+        Answer::CaptureBad {
+            flows,
+            place,
+            cause: _,
+        } => {
+            out.extend(if *flows { b"flow".as_slice() } else { b"route" })?;
+            out.extend(b" capture bad at ")?;
+            push_number(out, *place)?;
+            out.extend(b": magic")
+        }
+        Answer::WriteFault { name } => push_name(out, b"cannot write ", name),
+        Answer::NoMemory => out.extend(b"no memory"),
+    }
+}
+
+// The line of an answer.
+fn answer_line(alloc: Global, tool: Tool, answer: &Answer) -> Result<Octets, NoMemory>
+    ensures { IfOk result (λ line. line ≡ answer_line tool answer.now) }
+{
+    let mut line = Octets::new(alloc);
+    if let Answer::Usage = answer {
+        line.extend(usage_line(tool))?;
+        return Ok(line);
+    }
+    line.extend(tool_name(tool))?;
+    line.extend(b": ")?;
+    push_answer(&mut line, answer)?;
+    line.push(b'\n')?;
+    Ok(line)
+}
+
+/// Says the line of an answer. Where that fails, no answer but Done changes.
+pub fn say_answer<S: Sink>(alloc: Global, tool: Tool, answer: Answer, say: &mut S) -> Answer
+    ensures answer { IsSaidAs answer result (S.faults say.old) (S.faults say.new) }
+    ensures said { SaysAnswer tool result (S.faults say.old) (S.faults say.new) (S.held say.old) (S.held say.new) }
+{
+    let Ok(line) = answer_line(alloc, tool, &answer) else {
+        return Answer::NoMemory;
+    };
+    match write_all(say, line.as_slice()) {
+        Ok(()) => answer,
+        Err(IoFault::NoMemory) => Answer::NoMemory,
+        Err(IoFault::Failed) => match answer {
+            Answer::Done => Answer::SayFault,
+            answer => answer,
+        },
+    }
+}
