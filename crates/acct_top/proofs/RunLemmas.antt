@@ -155,37 +155,41 @@ job_holds Done job before after failed whole output audit d f =
     }
 job_holds FlowFault job before after failed whole output audit d f =
     record { octets = f.octets; rest = f.rest; capture = f.capture; taken = f.taken; failed = f.risen d.0; accounted = accounted job before after failed whole output audit f d.1 d.2 }
-job_holds (CaptureBad flows place cause) job before after failed whole output audit d f =
-    (d.0, d.1, d.2, record {
-      octets = f.octets ++ f.rest;
-      capture = f.capture;
-      bad = λ is.
-          let short : length f.octets < MOST_CAPTURE = omega (arith, is.0, length-append f.octets f.rest) in
-          let none : f.rest ≡ [] = f.read_whole d.3 short in
-          apart whole (f.whole_is.1 (subst IsWholeCapture (all_read f.octets f.rest none) is)) d.4;
-      accounted = subst (λ (ds : _). IsAccountedButFor job ds before after) (sym (same_flows f.octets f.rest f.bound (f.read_whole d.3)))
-          (accounted job before after failed whole output audit f d.5 d.6);
-    })
+job_holds (CaptureBad flows place cause) job before after failed whole output audit d f = (
+  d.0,
+  d.1,
+  d.2,
+  record {
+    octets = f.octets ++ f.rest;
+    capture = f.capture;
+    bad = λ is.
+        let short : length f.octets < MOST_CAPTURE = omega (arith, is.0, length-append f.octets f.rest) in
+        let none : f.rest ≡ [] = f.read_whole d.3 short in
+        apart whole (f.whole_is.1 (subst IsWholeCapture (all_read f.octets f.rest none) is)) d.4;
+    accounted = subst (λ (ds : _). IsAccountedButFor job ds before after) (sym (same_flows f.octets f.rest f.bound (f.read_whole d.3)))
+        (accounted job before after failed whole output audit f d.5 d.6);
+  },
+)
 job_holds (WriteFault name) job before after failed whole output audit d f =
     let is_whole = f.whole_is.0 d.1 in
     let none : f.rest ≡ [] = f.read_whole d.0 is_whole.0 in
     elim d.2 [
       | inl first ↦ record {
-          octets = f.octets;
-          capture = f.capture ∙ ap Some (all_read f.octets f.rest none);
-          whole = is_whole;
-          which = inl first.0;
-          failed = subst (λ (n : List ℕ). Rose (before.writes n) (after.writes n)) (sym first.0) (f.wrote.cause first.1);
-          accounted = accounted job before after failed whole output audit f (λ e. cc (first.1, e)) first.2;
-        }
+        octets = f.octets;
+        capture = f.capture ∙ ap Some (all_read f.octets f.rest none);
+        whole = is_whole;
+        which = inl first.0;
+        failed = subst (λ (n : List ℕ). Rose (before.writes n) (after.writes n)) (sym first.0) (f.wrote.cause first.1);
+        accounted = accounted job before after failed whole output audit f (λ e. cc (first.1, e)) first.2;
+      }
       | inr second ↦ record {
-          octets = f.octets;
-          capture = f.capture ∙ ap Some (all_read f.octets f.rest none);
-          whole = is_whole;
-          which = inr second.0;
-          failed = subst (λ (n : List ℕ). Rose (before.writes n) (after.writes n)) (sym second.0) (f.wrote_audit.cause second.2);
-          accounted = accounted job before after failed whole output audit f (λ e. cc (second.1, e)) (λ e. cc (second.2, e));
-        }
+        octets = f.octets;
+        capture = f.capture ∙ ap Some (all_read f.octets f.rest none);
+        whole = is_whole;
+        which = inr second.0;
+        failed = subst (λ (n : List ℕ). Rose (before.writes n) (after.writes n)) (sym second.0) (f.wrote_audit.cause second.2);
+        accounted = accounted job before after failed whole output audit f (λ e. cc (second.1, e)) (λ e. cc (second.2, e));
+      }
     ]
 job_holds NoMemory job before after failed whole output audit d f = tt
 job_holds (OpenFault name) job before after failed whole output audit d f = absurd d

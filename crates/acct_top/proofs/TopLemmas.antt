@@ -78,13 +78,17 @@ job_earlier FlowFault job before middle after b h = record {
   failed = rose_earlier _ _ _ (b.reads job.capture) h.failed;
   accounted = accounted_earlier job (flows_of h.octets) before middle after b h.accounted;
 }
-job_earlier (CaptureBad flows place cause) job before middle after b h =
-    (h.0, h.1, h.2, record {
-      octets = h.3.octets;
-      capture = capture_earlier job before middle h.3.octets b h.3.capture;
-      bad = h.3.bad;
-      accounted = accounted_earlier job (flows_of h.3.octets) before middle after b h.3.accounted;
-    })
+job_earlier (CaptureBad flows place cause) job before middle after b h = (
+  h.0,
+  h.1,
+  h.2,
+  record {
+    octets = h.3.octets;
+    capture = capture_earlier job before middle h.3.octets b h.3.capture;
+    bad = h.3.bad;
+    accounted = accounted_earlier job (flows_of h.3.octets) before middle after b h.3.accounted;
+  },
+)
 job_earlier (WriteFault name) job before middle after b h = record {
   octets = h.octets;
   capture = capture_earlier job before middle h.octets b h.capture;

@@ -44,7 +44,9 @@ pub enum Answer {
         cause: AnyCause,
     },
     /// The name couldn't be opened, or the configuration couldn't be read.
-    OpenFault { name: Text },
+    OpenFault {
+        name: Text,
+    },
     /// Reading the flow capture failed.
     FlowFault,
     /// The capture's octets are no whole capture.
@@ -54,7 +56,9 @@ pub enum Answer {
         cause: BadCause,
     },
     /// Writing or closing the name failed.
-    WriteFault { name: Text },
+    WriteFault {
+        name: Text,
+    },
     /// All else was done, and the line couldn't be said.
     SayFault,
     NoMemory,

@@ -100,7 +100,7 @@ fn lines_of(alloc: Global, text: &[u8]) -> Result<Vec<&[u8]>, NoMemory>
 fn name_behind<'a>(head: &[u8], line: &'a [u8], names: &[Text]) -> Option<&'a [u8]>
     ensures { option_map (λ name. name.now) result
         ≡ (if starts_with (λ a b. a == b) line.entry.now head.now && is_free names.now (behind head.now line.entry.now)
-            then Some (behind head.now line.entry.now) else None) }
+        then Some (behind head.now line.entry.now) else None) }
 {
     if !line.starts_with(head) {
         return None;

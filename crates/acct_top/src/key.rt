@@ -1,4 +1,3 @@
-
 use acct_types::{Addr, FlowRecord};
 
 /// What records are counted apart by. Keys order by their parts from the first to the last.

@@ -23,8 +23,15 @@ unwrap-output-requires c =
     let third = last_is c.pop.result _ _ _ c.pop.ensures c.unwrap-audit.ensures in
     let second = last_is c.pop-2.result _ _ _ c.pop-2.ensures c.unwrap-capture.ensures in
     has_last c.pop-3.result _ _ c.pop-3.ensures
-    (omega (arith, ap length four.is, four.count, ap length third, length-append c.pop.new.self (c.unwrap-audit.result ∷ []),
-    ap length second, length-append c.pop-2.new.self (c.unwrap-capture.result ∷ [])))
+    (omega (
+      arith,
+      ap length four.is,
+      four.count,
+      ap length third,
+      length-append c.pop.new.self (c.unwrap-audit.result ∷ []),
+      ap length second,
+      length-append c.pop-2.new.self (c.unwrap-capture.result ∷ []),
+    ))
 
 pub invariant_of-result : goal.invariant_of-result
 invariant_of-result c =
