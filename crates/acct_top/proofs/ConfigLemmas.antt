@@ -1,7 +1,7 @@
 -- Lines of a configuration.
-use Rattle.std.proofs.Common.{◌≡◌, ◌∙◌, ◌==◌, ℕ, List, [], ◌∷◌, ◌++◌, ◌+◌, ◌<◌, length, drop, length-append, append_assoc, true, false, refl, sym, ap, ap₂, subst, arith}
+use Rattle.std.proofs.Common.{◌≡◌, ◌∙◌, ◌==◌, ℕ, List, [], ◌∷◌, ◌++◌, ◌+◌, ◌<◌, length, length-append, append_assoc, true, false, refl, sym, ap, ap₂, subst, arith}
 use borrow.Author.Tests.{eqb-true}
-use Rattle.std.specs.Prelude.{◌&&◌, ◌||◌, ◌≢◌, not, Bool, Option, Some, None, Result, Ok, Err, if◌then◌else◌, suc}
+use Rattle.std.specs.Prelude.{◌&&◌, ◌||◌, ◌≢◌, not, Bool, Option, Some, None, Result, Ok, Err, if◌then◌else◌}
 use Rattle.std.specs.Cmp.{IsEquivalence, nat_eq_equiv}
 use Rattle.std.specs.Cmp.Lexicographic.{lists_equiv}
 use Rattle.std.specs.List.{IsDistinct, list_any, starts_with}
@@ -14,7 +14,7 @@ use Rattle.std.proofs.lemmas.List.{append-nil, length-map}
 use Rattle.acct_top.specs.Name.{is_name}
 use Rattle.acct_top.specs.Lines.{pattern_of, patterns_of}
 use Rattle.acct_top.specs.declared.config.Line.{Line}
-use Rattle.acct_top.specs.Config.{behind, is_among, is_free, names_after, names_from, names_in, lines_of, Pattern, Exactly, Names, wanted_lines, without_empty_end}
+use Rattle.acct_top.specs.Config.{behind, is_among, names_after, names_from, names_in, lines_of, Pattern, Exactly, Names, wanted_lines, without_empty_end}
 
 -- an empty end falls away
 pub without_end : (front : List (List ℕ)) → without_empty_end (front ++ [] ∷ []) ≡ front

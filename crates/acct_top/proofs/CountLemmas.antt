@@ -1,10 +1,10 @@
 -- One more record, one more datagram.
-use Rattle.std.proofs.Common.{◌≡◌, ◌∙◌, ◌+◌, ◌*◌, ◌^◌, ◌<◌, ◌≤◌, ◌∷◌, ◌++◌, [], ℕ, List, Bool, true, false, Option, Some, None, unwrap_or, refl, sym, ap, ap₂, length, take, drop, get_or, map, arith, append_assoc, length-append, add-zero, add-one, drop-cons, ◌-◌, suc}
+use Rattle.std.proofs.Common.{◌≡◌, ◌∙◌, ◌+◌, ◌*◌, ◌^◌, ◌<◌, ◌≤◌, ◌∷◌, ◌++◌, [], ℕ, List, Bool, true, false, Option, Some, unwrap_or, refl, sym, ap, ap₂, length, take, drop, get_or, arith, append_assoc, length-append, add-zero, add-one, drop-cons, ◌-◌, suc}
 use Rattle.std.specs.Prelude.{if◌then◌else◌, Result, Ok, Err}
 use Rattle.std.specs.Map.{lookup}
 use Rattle.std.proofs.lemmas.List.{append-nil, length-map, take_more, map-append}
 use Rattle.std.proofs.lemmas.Grind.{flat_map-append}
-use Rattle.acct_types.specs.Counts.{IsBelow, plus, nothing}
+use Rattle.acct_types.specs.Counts.{IsBelow, nothing}
 use Rattle.acct_types.specs.declared.datagram.Datagram.{Datagram}
 use Rattle.acct_types.specs.declared.flow.Counts.{Counts}
 use Rattle.netflow_in.specs.Version5.{decoded_v5}

@@ -1,5 +1,5 @@
 -- Cells that are appended one after another are a line.
-use Rattle.std.proofs.Common.{◌≡◌, ◌∙◌, ◌++◌, ◌∷◌, [], ℕ, List, refl, append_assoc}
+use Rattle.std.proofs.Common.{◌≡◌, ◌++◌, ◌∷◌, [], ℕ, List, append_assoc}
 use Rattle.acct_top.specs.Csv.{csv_line}
 
 -- the line of seven cells, behind what was there

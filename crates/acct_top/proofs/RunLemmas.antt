@@ -1,6 +1,6 @@
 -- On the parts of a run.
-use Rattle.std.proofs.Common.{◌≡◌, ◌∙◌, ◌++◌, ◌≢◌, ◌+◌, ◌<◌, ◌≤◌, [], ◌∷◌, ℕ, List, Bool, true, false, Option, Some, unwrap_or, refl, sym, ap, subst, length, take, length-append, inl, inr, arith}
-use Rattle.std.specs.Prelude.{◌⊎◌, ◌↔◌, IsTrue, nat_lt, Result, Ok, Err, OnOk}
+use Rattle.std.proofs.Common.{◌≡◌, ◌∙◌, ◌++◌, ◌≢◌, ◌<◌, ◌≤◌, [], ◌∷◌, ℕ, List, Bool, true, false, Option, Some, unwrap_or, refl, sym, ap, subst, length, take, length-append, inl, inr, arith}
+use Rattle.std.specs.Prelude.{◌↔◌, IsTrue, nat_lt, Result, Ok, Err, OnOk}
 use borrow.Author.Tests.{ltb-true, ltb-false}
 use Rattle.std.proofs.lemmas.List.{append-nil, take_all, take_at}
 use Rattle.acct_types.specs.declared.flow.Counts.{Counts}
@@ -14,14 +14,14 @@ use Rattle.acct_top.specs.declared.answer.Answer.TheVariants.{Done, Usage, Confi
 use Rattle.acct_top.specs.declared.count.Texts.{Texts}
 use Rattle.acct_top.specs.declared.job.Job.{Job}
 use Rattle.acct_top.specs.declared.key.FlowKey.{FlowKey}
-use Rattle.acct_top.specs.Answers.{HoldsOfJob, IsBadCapture, IsCutShort, IsDone, IsUnwritten, JobReason}
+use Rattle.acct_top.specs.Answers.{HoldsOfJob, JobReason}
 use Rattle.acct_top.specs.Audit.{audit_text}
-use Rattle.acct_top.specs.Conservation.{flows_of, HoldsText, IsAccounted, IsAccountedButFor, IsWholeCapture, KeepsOthers, MOST_CAPTURE, MOST_EVENTS}
+use Rattle.acct_top.specs.Conservation.{flows_of, HoldsText, IsAccountedButFor, IsWholeCapture, KeepsOthers, MOST_CAPTURE, MOST_EVENTS}
 use Rattle.acct_top.specs.Csv.{purge_text}
 use Rattle.acct_top.specs.Due.{due}
 use Rattle.acct_top.specs.Run.{AreBegun, AreTextsOf, Decides, HoldsFront, ReadsCapture}
 use Rattle.acct_top.specs.State.{State}
-use Rattle.acct_top.specs.Sums.{IsPurge, sums_of}
+use Rattle.acct_top.specs.Sums.{IsPurge}
 use Rattle.acct_top.proofs.SumLemmas.{conserve}
 
 nil_front : (a b : List ℕ) → a ++ b ≡ [] → a ≡ []

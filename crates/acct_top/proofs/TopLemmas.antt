@@ -1,20 +1,18 @@
 -- From what holds of a job to what holds of the words, and the answers that are owed.
-use Rattle.std.proofs.Common.{◌≡◌, ◌∙◌, ◌++◌, ◌≢◌, ◌<◌, ◌≤◌, [], ◌∷◌, ℕ, List, true, Option, Some, refl, sym, ap, ap₂, subst, length, get_or, codes, inl, inr, arith}
-use Rattle.std.specs.Prelude.{◌⊎◌, Err, Ok, Result}
+use Rattle.std.proofs.Common.{◌≡◌, ◌∙◌, ◌++◌, ◌≤◌, [], ◌∷◌, ℕ, List, Option, Some, refl, sym, ap, ap₂, subst, length, get_or, codes, inl, inr, arith}
+use Rattle.std.specs.Prelude.{Err, Ok, Result}
 use Rattle.acct_types.specs.declared.datagram.Datagram.{Datagram}
 use Rattle.outside_io.specs.Causes.{Rose}
-use Rattle.outside_io.specs.Names.{Names, Puts, old_octets}
+use Rattle.outside_io.specs.Names.{Names, old_octets}
 use Rattle.acct_top.specs.declared.answer.AnyCause.{AnyCause}
 use Rattle.acct_top.specs.declared.answer.AnyCause.TheVariants.{Config, TooLong}
 use Rattle.acct_top.specs.declared.answer.ConfigCause.{ConfigCause}
 use Rattle.acct_top.specs.declared.answer.ConfigCause.TheVariants.{NotInProfile}
-use Rattle.acct_top.specs.declared.answer.BadCause.{BadCause}
-use Rattle.acct_top.specs.declared.answer.BadCause.TheVariants.{Magic}
 use Rattle.acct_top.specs.declared.answer.Answer.{Answer}
 use Rattle.acct_top.specs.declared.answer.Answer.TheVariants.{Done, Usage, ConfigRefused, OpenFault, FlowFault, CaptureBad, WriteFault, SayFault, NoMemory}
 use Rattle.acct_top.specs.declared.job.Job.{Job}
-use Rattle.acct_top.specs.Answers.{Accepts, HasReason, Holds, HoldsOfJob, IsBadCapture, IsConfigRefused, IsCutShort, IsDone, IsRefused, IsUnopened, IsUnwritten, LeavesOthers, MOST_CONFIG, NamesFile, OfJob, RunReason}
-use Rattle.acct_top.specs.Complete.{HasCapture, IsOwed, NoneRose}
+use Rattle.acct_top.specs.Answers.{Accepts, HasReason, Holds, HoldsOfJob, IsConfigRefused, IsRefused, IsUnopened, NamesFile, OfJob, RunReason}
+use Rattle.acct_top.specs.Complete.{HasCapture, IsOwed}
 use Rattle.acct_top.specs.Config.{names_in}
 use Rattle.acct_top.specs.Conservation.{flows_of, HoldsText, IsAccountedButFor, IsWholeCapture, KeepsOthers}
 use Rattle.acct_top.specs.Csv.{purge_text}

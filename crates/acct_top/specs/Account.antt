@@ -1,5 +1,5 @@
 -- What was counted of datagrams, and of one more.
-use Rattle.std.specs.Prelude.{◌≡◌, ℕ, ◌+◌, ◌*◌, ◌≤◌, List, [], ◌++◌, length}
+use Rattle.std.specs.Prelude.{◌≡◌, ℕ, ◌+◌, ◌≤◌, List, [], ◌++◌, length}
 use Rattle.acct_types.specs.declared.datagram.Datagram.{Datagram}
 use Rattle.acct_top.specs.declared.count.Account.{Account}
 use Rattle.acct_top.specs.Audit.{events_text, refusal_of, refusals}

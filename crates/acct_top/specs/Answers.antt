@@ -1,16 +1,15 @@
 -- What holds after each answer, and why it comes.
-use Rattle.std.specs.Prelude.{◌≡◌, ◌≢◌, ◌⊎◌, ◌≤◌, ◌<◌, ⊤, ℕ, Bool, true, List, [], ◌∷◌, ◌++◌, length, take, Some, Err, codes}
+use Rattle.std.specs.Prelude.{◌≡◌, ◌≢◌, ◌⊎◌, ◌≤◌, ◌<◌, ⊤, ℕ, true, List, [], ◌∷◌, ◌++◌, length, Some, Err, codes}
 use Rattle.outside_io.specs.Causes.{Rose}
 use Rattle.outside_io.specs.Names.{Names, Puts, old_octets}
 use Rattle.acct_top.specs.declared.answer.AnyCause.{AnyCause}
 use Rattle.acct_top.specs.declared.answer.AnyCause.TheVariants.{Config, TooLong}
-use Rattle.acct_top.specs.declared.answer.BadCause.{BadCause}
 use Rattle.acct_top.specs.declared.answer.BadCause.TheVariants.{Magic}
 use Rattle.acct_top.specs.declared.answer.Answer.{Answer}
 use Rattle.acct_top.specs.declared.answer.Answer.TheVariants.{Done, Usage, ConfigRefused, OpenFault, FlowFault, CaptureBad, WriteFault, SayFault, NoMemory}
 use Rattle.acct_top.specs.declared.job.Job.{Job}
 use Rattle.acct_top.specs.Config.{names_in}
-use Rattle.acct_top.specs.Conservation.{IsAccounted, IsAccountedButFor, IsWholeCapture, flows_of, MOST_CAPTURE}
+use Rattle.acct_top.specs.Conservation.{IsAccounted, IsAccountedButFor, IsWholeCapture, flows_of}
 use Rattle.acct_top.specs.Job.{IsJob}
 use Rattle.acct_top.specs.State.{State}
 

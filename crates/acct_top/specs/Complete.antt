@@ -1,5 +1,5 @@
 -- The answers that are owed.
-use Rattle.std.specs.Prelude.{◌≡◌, ◌⊎◌, ℕ, Bool, true, List, Some}
+use Rattle.std.specs.Prelude.{◌≡◌, ◌⊎◌, ℕ, true, List, Some}
 use Rattle.outside_io.specs.Causes.{Rose}
 use Rattle.outside_io.specs.Names.{Names}
 use Rattle.acct_top.specs.declared.answer.AnyCause.{AnyCause}
@@ -7,7 +7,7 @@ use Rattle.acct_top.specs.declared.answer.BadCause.TheVariants.{Magic}
 use Rattle.acct_top.specs.declared.answer.Answer.{Answer}
 use Rattle.acct_top.specs.declared.answer.Answer.TheVariants.{Done, Usage, ConfigRefused, OpenFault, FlowFault, CaptureBad, NoMemory}
 use Rattle.acct_top.specs.declared.job.Job.{Job}
-use Rattle.acct_top.specs.Answers.{HasReason, Holds, IsConfigRefused, NamesFile, OfJob}
+use Rattle.acct_top.specs.Answers.{IsConfigRefused, NamesFile, OfJob}
 use Rattle.acct_top.specs.Conservation.{IsWholeCapture}
 use Rattle.acct_top.specs.State.{State}
 

@@ -1,11 +1,8 @@
 -- What is kept while datagrams are counted.
-use Rattle.std.specs.Prelude.{◌≡◌, ℕ, ◌+◌, ◌*◌, ◌≤◌, ◌^◌, List, length}
-use Rattle.acct_types.specs.declared.datagram.Datagram.{Datagram}
+use Rattle.std.specs.Prelude.{ℕ, ◌*◌, ◌≤◌, ◌^◌, List}
 use Rattle.acct_types.specs.declared.flow.Counts.{Counts}
 use Rattle.acct_top.specs.declared.key.FlowKey.{FlowKey}
-use Rattle.acct_top.specs.Audit.{events_text, refusal_of, refusals}
-use Rattle.acct_top.specs.Due.{due, entries_in}
-use Rattle.acct_top.specs.Sums.{all_added, count_in}
+use Rattle.acct_top.specs.Sums.{count_in}
 
 -- no key has more than so many records can count
 abbrev pub IsBounded : List (FlowKey × Counts) → ℕ → Type 0

@@ -1,5 +1,5 @@
 -- The entries that the plugin is owed: one for each record of each datagram that is decoded, in their order.
-use Rattle.std.specs.Prelude.{ℕ, List, [], ◌++◌, Ok, Err, map, flat_map, unwrap_or}
+use Rattle.std.specs.Prelude.{List, [], Ok, Err, map, flat_map, unwrap_or}
 use Rattle.acct_types.specs.declared.addr.Addr.TheVariants.{V4}
 use Rattle.acct_types.specs.declared.datagram.Datagram.{Datagram}
 use Rattle.acct_types.specs.declared.flow.Counts.{Counts}

@@ -1,4 +1,4 @@
-use Rattle.std.proofs.Common.{◌≡◌, ◌∙◌, ◌++◌, ◌∷◌, ◌==◌, [], ℕ, List, map, length, true, false, sym, ap, refl, rules}
+use Rattle.std.proofs.Common.{◌≡◌, ◌∙◌, ◌++◌, ◌∷◌, ◌==◌, [], map, sym, ap, refl, rules}
 use Rattle.std.specs.List.{slice_split}
 use Rattle.std.proofs.lemmas.List.{map-append}
 use Rattle.acct_top.proofs.ConfigLemmas.{lines_with, lines_without}

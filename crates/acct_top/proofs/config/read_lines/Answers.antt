@@ -1,4 +1,4 @@
-use Rattle.std.proofs.Common.{◌≡◌, ◌∙◌, ◌<◌, ◌≤◌, sym, length, map, drop, arith, length-drop}
+use Rattle.std.proofs.Common.{◌≡◌, ◌∙◌, ◌<◌, sym, length, map, drop, arith, length-drop}
 use Rattle.std.proofs.lemmas.List.{length-map}
 use Rattle.acct_top.specs.Lines.{pattern_of, patterns_of}
 use Rattle.acct_top.proofs.ConfigLemmas.{no_line}

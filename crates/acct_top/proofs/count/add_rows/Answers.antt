@@ -1,5 +1,4 @@
-use Rattle.std.proofs.Common.{◌≡◌, ◌+◌, ◌^◌, arith, get_or}
-use Rattle.acct_types.specs.Counts.{IsBelow}
+use Rattle.std.proofs.Common.{◌+◌, arith}
 use Rattle.acct_top.proofs.CountLemmas.{bounded_more, record_added}
 use Rattle.acct_top.proofs.count.add_rows.Goals as goal
 

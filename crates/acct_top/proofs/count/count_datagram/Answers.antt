@@ -1,8 +1,5 @@
-use Rattle.std.proofs.Common.{◌+◌, ◌∙◌, arith, ap, length, refl, subst, ℕ}
-use Rattle.acct_top.specs.Counting.{IsBounded}
-use Rattle.acct_top.specs.Due.{entries_of}
-use Rattle.acct_top.specs.Sums.{all_added}
-use Rattle.acct_top.proofs.CountLemmas.{decoded_one, refused_one}
+use Rattle.std.proofs.Common.{◌+◌, arith, ap, length, refl, ℕ}
+use Rattle.acct_top.proofs.CountLemmas.{decoded_one}
 use Rattle.acct_top.proofs.count.count_datagram.Goals as goal
 
 pub add_rows-requires-clause-small : goal.add_rows-requires-clause-small

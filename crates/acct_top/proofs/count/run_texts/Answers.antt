@@ -1,4 +1,4 @@
-use Rattle.std.proofs.Common.{◌≡◌, ◌∙◌, refl, ap}
+use Rattle.std.proofs.Common.{◌∙◌, refl, ap}
 use Rattle.std.specs.Map.{lookup}
 use Rattle.acct_top.specs.Csv.{purge_text}
 use Rattle.acct_top.specs.Due.{due}

@@ -1,6 +1,5 @@
-use Rattle.std.proofs.Common.{◌≡◌, ◌∙◌, ◌++◌, ◌∷◌, [], ℕ, List, refl, append_assoc, decimal}
+use Rattle.std.proofs.Common.{◌∙◌}
 use Rattle.std.proofs.lemmas.Result.{on_ok_weaker}
-use Rattle.acct_types.specs.AddrText.{address_text}
 use Rattle.acct_top.specs.Csv.{row_line}
 use Rattle.acct_top.proofs.CsvLemmas.{seven_cells}
 use Rattle.acct_top.proofs.csv.push_row.Goals as goal

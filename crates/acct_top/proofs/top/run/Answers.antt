@@ -1,4 +1,4 @@
-use Rattle.std.proofs.Common.{◌≡◌, ◌∙◌, ◌≤◌, map, string_bytes, ℕ, List, Some, ap, subst, sym, arith}
+use Rattle.std.proofs.Common.{◌∙◌, map, string_bytes, ℕ, List, ap, subst, arith}
 use Rattle.outside_io.specs.Names.{Names}
 use Rattle.acct_top.specs.Answers.{Accepts}
 use Rattle.acct_top.specs.Job.{IsJob}
