@@ -7,6 +7,7 @@ mod audit;
 mod config;
 mod count;
 mod csv;
+mod in_memory;
 mod job;
 mod key;
 mod run;
@@ -18,6 +19,10 @@ pub use answer::{Answer, AnyCause, BadCause, ConfigCause, Tool, status};
 pub use audit::{Event, Totals, push_event};
 pub use config::{ConfigFault, read_config};
 pub use csv::purge_text;
+pub use in_memory::account_in_memory;
 pub use job::Job;
 pub use key::FlowKey;
 pub use top::account_alone;
+
+#[cfg(test)]
+mod tests;

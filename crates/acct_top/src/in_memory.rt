@@ -1,0 +1,46 @@
+ghost use Rattle.std.specs.Prelude.{map, string_bytes, Some};
+ghost use Rattle.outside_io.specs.Memory.{sink_faults, sink_held};
+ghost use Rattle.outside_io.specs.MemoryPlace.{place_names, place_open_faults, place_read_faults, place_taken, place_write_faults};
+ghost use Rattle.acct_top.specs.Answers.{HasReason, Holds, LeavesOthers};
+ghost use Rattle.acct_top.specs.Complete.{IsOwed};
+ghost use Rattle.acct_top.specs.Say.{SaysAnswer};
+ghost use Rattle.acct_top.specs.State.{state_of};
+
+use crate::{Answer, Tool, account_alone};
+use outside_io::{MemoryPlace, MemorySink};
+use std::alloc::Global;
+
+/// A run over memory. A place in memory tells its octets, so each clause holds without a premise.
+pub fn account_in_memory(
+    alloc: Global,
+    tool: Tool,
+    words: &[String],
+    place: &mut MemoryPlace,
+    say: &mut MemorySink,
+) -> Answer
+    // What holds after each answer; at Done the conservation theorem.
+    ensures holds { Holds result (map string_bytes words.now)
+        (state_of place_names place_taken place_open_faults place_read_faults place_write_faults place.old)
+        (state_of place_names place_taken place_open_faults place_read_faults place_write_faults place.new) }
+
+    // Which answer is owed to the words and the files.
+    ensures owed { IsOwed result (map string_bytes words.now)
+        (state_of place_names place_taken place_open_faults place_read_faults place_write_faults place.old)
+        (state_of place_names place_taken place_open_faults place_read_faults place_write_faults place.new)
+        (sink_faults say.old) (sink_faults say.new) }
+
+    // Whatever the answer, a name that is no output of the words' configuration has the octets that it had.
+    ensures others { LeavesOthers (map string_bytes words.now) (place_names place.old) (place_names place.new) }
+
+    // A fault is answered only where its number rose.
+    ensures reason { HasReason result (map string_bytes words.now)
+        (state_of place_names place_taken place_open_faults place_read_faults place_write_faults place.old)
+        (state_of place_names place_taken place_open_faults place_read_faults place_write_faults place.new)
+        (sink_faults say.old) (sink_faults say.new) }
+
+    // The line of the answer was said.
+    ensures said { SaysAnswer tool result (sink_faults say.old) (sink_faults say.new)
+        (Some (sink_held say.old)) (Some (sink_held say.new)) }
+{
+    account_alone(alloc, tool, words, place, say)
+}
