@@ -11,7 +11,7 @@ use Rattle.acct_top.specs.declared.answer.ConfigCause.TheVariants.{NotInProfile}
 use Rattle.acct_top.specs.declared.answer.Answer.{Answer}
 use Rattle.acct_top.specs.declared.answer.Answer.TheVariants.{Done, Usage, ConfigRefused, OpenFault, FlowFault, CaptureBad, WriteFault, SayFault, NoMemory}
 use Rattle.acct_top.specs.declared.job.Job.{Job}
-use Rattle.acct_top.specs.Answers.{Accepts, HasReason, Holds, HoldsOfJob, IsConfigRefused, IsRefused, IsUnopened, NamesFile, OfJob, RunReason}
+use Rattle.acct_top.specs.Answers.{Accepts, HasReason, HaveOneJob, Holds, HoldsOfJob, IsConfigRefused, IsRefused, IsUnopened, NamesFile, OfJob, RunReason}
 use Rattle.acct_top.specs.Complete.{HasCapture, IsOwed}
 use Rattle.acct_top.specs.Config.{names_in}
 use Rattle.acct_top.specs.Conservation.{flows_of, HoldsText, IsAccountedButFor, IsWholeCapture, KeepsOthers}
@@ -127,12 +127,15 @@ same_text words names f g s t a b c d =
     let file = same_file words f g a b in
     (file, same_octets (names f) s t c (ap names file ∙ d))
 
-one_capture : (words : List (List ℕ)) (names : Names) (some other : Job) → Accepts words names some → Accepts words names other → some.capture ≡ other.capture
-one_capture words names some other a b =
+pub one_job : HaveOneJob
+one_job words names some other a b =
     let same = same_text words names a.file b.file a.text b.text a.line b.line a.config b.config in
     let all : Ok (a.file ∷ some.output ∷ some.capture ∷ some.audit ∷ []) ≡ Ok (b.file ∷ other.output ∷ other.capture ∷ other.audit ∷ []) =
     sym a.names_job ∙ ap₂ names_in same.0 same.1 ∙ b.names_job in
-    cc all
+    (cc all, cc all, cc all)
+
+one_capture : (words : List (List ℕ)) (names : Names) (some other : Job) → Accepts words names some → Accepts words names other → some.capture ≡ other.capture
+one_capture words names some other a b = (one_job words names some other a b).1
 
 not_both : (words : List (List ℕ)) (names : Names) (file : List ℕ) (line : ℕ) (cause : AnyCause) (job : Job) → IsConfigRefused words file line cause names → Accepts words names job → ⊥
 not_both words names file line TooLong job r a =

@@ -34,6 +34,11 @@ pub record Accepts (words : List (List ℕ)) (names : Names) (job : Job) : Type 
 abbrev pub OfJob : List (List ℕ) → Names → (Job → Type 0) → Type 0
 OfJob words names P = (job : Job) × Accepts words names job × P job
 
+-- words and files have one job: whoever reads them finds the same names
+abbrev pub HaveOneJob : Type 0
+HaveOneJob = (words : List (List ℕ)) (names : Names) (some other : Job) → Accepts words names some → Accepts words names other
+    → (some.output ≡ other.output) × (some.capture ≡ other.capture) × (some.audit ≡ other.audit)
+
 -- ---- what holds of a job
 
 pub record IsDone (job : Job) (before after : State) : Type 0 where

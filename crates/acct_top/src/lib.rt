@@ -22,7 +22,7 @@ pub use csv::purge_text;
 pub use in_memory::account_in_memory;
 pub use job::Job;
 pub use key::FlowKey;
-pub use top::account_alone;
+pub use top::{account_alone, one_job};
 
 #[cfg(test)]
 mod tests;

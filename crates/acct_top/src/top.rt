@@ -1,5 +1,5 @@
 ghost use Rattle.std.specs.Prelude.{◌≡◌, ◌⊎◌, List, ℕ, ◌∷◌, [], map, string_bytes, codes, IsTrue, IfOk, IfSome, IfNone};
-ghost use Rattle.acct_top.specs.Answers.{HasReason, Holds, LeavesOthers, NamesFile, RunReason};
+ghost use Rattle.acct_top.specs.Answers.{HasReason, HaveOneJob, Holds, LeavesOthers, NamesFile, RunReason};
 ghost use Rattle.acct_top.specs.Complete.{IsOwed};
 ghost use Rattle.acct_top.specs.Say.{SaysAnswer};
 ghost use Rattle.acct_top.specs.State.{state_of};
@@ -101,3 +101,8 @@ pub fn account_alone<P: Place, S: Sink>(
     let answer = run(alloc, words, place);
     say_answer(alloc, tool, answer, say)
 }
+
+/// Words and files have one job.
+pub fn one_job()
+    ensures { HaveOneJob }
+{}
