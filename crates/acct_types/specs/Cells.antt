@@ -1,7 +1,7 @@
 -- Cells of keys.
 use Rattle.std.specs.Prelude.{ℕ, ◌==◌, ◌&&◌, Bool, true, List, not, nat_lt}
 use Rattle.std.specs.List.{list_all}
-use Rattle.std.specs.Ordering.{nat_cmp}
+use Rattle.std.specs.Ordering.{eq_by_cmp, nat_cmp}
 use Rattle.std.specs.Cmp.Lexicographic.{slice_cmp}
 use Rattle.std.specs.declared.cmp.Ordering.{Ordering}
 use Rattle.std.specs.declared.cmp.Ordering.TheVariants.{Less, Greater}
@@ -52,3 +52,7 @@ cell_cmp (cell.Words a) _ = Greater
 -- keys by their cells, from the first to the last
 abbrev pub key_cmp : List Cell → List Cell → Ordering
 key_cmp a b = slice_cmp cell_cmp a b
+
+-- whether two keys are the same: neither comes before the other
+abbrev pub key_eq : List Cell → List Cell → Bool
+key_eq a b = eq_by_cmp key_cmp a b

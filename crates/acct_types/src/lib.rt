@@ -29,7 +29,9 @@ pub use item::{Item, Purge};
 pub use key::{Cells, Key};
 pub use list::{List, Octets, Text};
 pub use memory::NoMemory;
-pub use order::{addresses_are_ordered, columns_are_in_order, prefixes_are_ordered};
+pub use order::{
+    addresses_are_ordered, columns_are_in_order, keys_are_ordered, prefixes_are_ordered,
+};
 pub use prefix::Prefix;
 pub use primitives::{Column, Primitives};
 pub use reading::{read_address, spellings_are_read, texts_are_read};
