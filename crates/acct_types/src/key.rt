@@ -149,10 +149,11 @@ impl<'a> Cells<'a> {
 
 impl PartialEq for Key {
     ghost use Rattle.std.specs.Cmp.Lexicographic.{pointwise, lists_per};
+    ghost use Rattle.acct_types.specs.contracts.cell.CellPartialEq.TheImpl.Laws as cell_laws;
 
     ghost eq = { λ a b. pointwise ⟦<Cell as PartialEq>⟧.eq a b };
 
-    ghost laws = { lists_per ⟦<Cell as PartialEq>⟧.laws };
+    ghost laws = { lists_per cell_laws.laws-law };
 
     fn eq(&self, other: &Key) -> bool {
         self.cells == other.cells
@@ -161,16 +162,18 @@ impl PartialEq for Key {
 
 impl Eq for Key {
     ghost use Rattle.std.specs.Cmp.Lexicographic.{lists_equiv};
+    ghost use Rattle.acct_types.specs.contracts.cell.CellEq.TheImpl.Laws as cell_laws;
 
-    ghost laws = { lists_equiv ⟦<Cell as Eq>⟧.laws };
+    ghost laws = { lists_equiv cell_laws.laws-law };
 }
 
 impl PartialOrd for Key {
     ghost use Rattle.std.specs.Cmp.Lexicographic.{slice_partial_cmp, lists_po};
+    ghost use Rattle.acct_types.specs.contracts.cell.CellPartialOrd.TheImpl.Laws as cell_laws;
 
     ghost partial_cmp = { λ a b. slice_partial_cmp ⟦<Cell as PartialOrd>⟧.partial_cmp a b };
 
-    ghost laws = { lists_po ⟦<Cell as PartialOrd>⟧.laws };
+    ghost laws = { lists_po cell_laws.laws-law };
 
     fn partial_cmp(&self, other: &Key) -> Option<Ordering> {
         self.cells.partial_cmp(&other.cells)
@@ -179,14 +182,15 @@ impl PartialOrd for Key {
 
 impl Ord for Key {
     ghost use Rattle.std.specs.Cmp.Lexicographic.{slice_cmp, lists_total, lists_agrees, lists_ties};
+    ghost use Rattle.acct_types.specs.contracts.cell.CellOrd.TheImpl.Laws as cell_laws;
 
     ghost cmp = { λ a b. slice_cmp ⟦<Cell as Ord>⟧.cmp a b };
 
-    ghost total = { lists_total ⟦<Cell as Ord>⟧.total };
+    ghost total = { lists_total cell_laws.total-law };
 
-    ghost matches_partial_cmp = { λ a b. lists_agrees ⟦<Cell as Ord>⟧.matches_partial_cmp a b };
+    ghost matches_partial_cmp = { λ a b. lists_agrees cell_laws.matches_partial_cmp-law a b };
 
-    ghost matches_eq = { λ a b. lists_ties ⟦<Cell as Ord>⟧.cmp ⟦<Cell as Ord>⟧.matches_eq a b };
+    ghost matches_eq = { λ a b. lists_ties ⟦<Cell as Ord>⟧.cmp cell_laws.matches_eq-law a b };
 
     fn cmp(&self, other: &Key) -> Ordering {
         self.cells.cmp(&other.cells)
@@ -196,10 +200,11 @@ impl Ord for Key {
 impl Hash for Key {
     ghost use Rattle.std.specs.Hash as fed;
     ghost use Rattle.std.specs.Hash.{items_Alike};
+    ghost use Rattle.acct_types.specs.contracts.cell.CellHash.TheImpl.Laws as cell_laws;
 
     ghost hash_input = { λ cells. fed.slice ⟦<Cell as Hash>⟧.hash_input cells };
 
-    ghost respects_eq = { (items_Alike (record { fed = ⟦<Cell as Hash>⟧.respects_eq })).fed };
+    ghost respects_eq = { (items_Alike (record { fed = cell_laws.respects_eq-law })).fed };
 
     fn hash<H: Hasher>(&self, state: &mut H) {
         self.cells.hash(state);
