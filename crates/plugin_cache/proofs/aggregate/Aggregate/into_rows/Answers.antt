@@ -1,0 +1,36 @@
+use Rattle.std.proofs.Common.{List, ◌≡◌, ◌∙◌, Bool, sym, ap, subst, Ordering}
+use Rattle.std.specs.Prelude.{IsSorted}
+use Rattle.std.specs.Map.{lookup}
+use Rattle.std.specs.List.{IsDistinct}
+use Rattle.std.proofs.lemmas.Result.{IfOk-at_ok}
+use Rattle.std.proofs.lemmas.Iterator.{items_from_collect}
+use Rattle.acct_types.specs.declared.cell.Cell.{Cell}
+use Rattle.acct_types.specs.contracts.key.KeyPartialEq.TheImpl as key
+use Rattle.acct_types.specs.contracts.key.KeyOrd.TheImpl as order
+use Rattle.acct_types.specs.Cells.{key_cmp, key_eq}
+use Rattle.plugin_cache.specs.Sums.{keys_in}
+use Rattle.plugin_cache.proofs.KeyLemmas.{same_keys, same_orders, strictly_sorted}
+use Rattle.plugin_cache.proofs.SumLemmas.{Rows, all_rows}
+use Rattle.plugin_cache.proofs.aggregate.Aggregate.into_rows.Goals as goal
+
+pub returns-clause-same : goal.returns-clause-same
+returns-clause-same c k =
+    let all : c.from_vec.result ≡ c.into_iter.result = c.from_vec.ensures ∙ IfOk-at_ok _ c.in_ok-collect.was (items_from_collect _ c.collect.ensures.ran (all_rows c.into_iter.result)) in
+    let rows : c.from_vec.result ≡ c.sort_keys.new.self.entries = all ∙ c.into_iter.ensures.into_iter_gives.0 in
+    ap (λ (rows : Rows). lookup (key_eq k) rows) rows
+    ∙ ap (λ (eq : List Cell → List Cell → Bool). lookup (eq k) c.sort_keys.new.self.entries) (sym same_keys)
+    ∙ c.in_ok-sort_keys.ensures.reordered.2 k
+    ∙ ap (λ (eq : List Cell → List Cell → Bool). lookup (eq k) c.self.inside.sums.entries) same_keys
+    ∙ ap (λ (rows : Rows). lookup (key_eq k) rows) c.self.view_is
+
+pub returns-clause-order : goal.returns-clause-order
+returns-clause-order c =
+    let all : c.from_vec.result ≡ c.into_iter.result = c.from_vec.ensures ∙ IfOk-at_ok _ c.in_ok-collect.was (items_from_collect _ c.collect.ensures.ran (all_rows c.into_iter.result)) in
+    let rows : c.from_vec.result ≡ c.sort_keys.new.self.entries = all ∙ c.into_iter.ensures.into_iter_gives.0 in
+    let sorted : IsSorted key_cmp (keys_in c.from_vec.result) =
+    subst (λ (R : List Cell → List Cell → Ordering). IsSorted R (keys_in c.from_vec.result)) same_orders
+    (subst (λ (rows : Rows). IsSorted (order.cmp-value).it (keys_in rows)) (sym rows) c.in_ok-sort_keys.ensures.sorted) in
+    let apart : IsDistinct key_eq (keys_in c.from_vec.result) =
+    subst (λ (eq : List Cell → List Cell → Bool). IsDistinct eq (keys_in c.from_vec.result)) same_keys
+    (subst (λ (rows : Rows). IsDistinct (key.eq-value).it (keys_in rows)) (sym rows) c.in_ok-sort_keys.ensures.unique) in
+    strictly_sorted (keys_in c.from_vec.result) sorted apart

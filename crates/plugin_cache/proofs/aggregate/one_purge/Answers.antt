@@ -1,0 +1,5 @@
+use Rattle.plugin_cache.proofs.SumLemmas.{one_purge}
+use Rattle.plugin_cache.proofs.aggregate.one_purge.Goals as goal
+
+pub returns : goal.returns
+returns c = one_purge

@@ -1,0 +1,6 @@
+//! What a plugin counts before it writes.
+#![tactic(auto)]
+
+mod aggregate;
+
+pub use aggregate::{Aggregate, one_purge, purges_conserve};
