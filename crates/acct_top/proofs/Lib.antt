@@ -1,7 +1,4 @@
-pub mod KeyLemmas
-pub mod SumLemmas
-pub mod ConfigLemmas
-pub mod CsvLemmas
 pub mod CountLemmas
+pub mod JobLemmas
 pub mod RunLemmas
 pub mod TopLemmas

@@ -3,6 +3,7 @@ use Rattle.std.proofs.Common.{◌≡◌, ◌∙◌, ◌++◌, ◌≢◌, ◌<◌
 use Rattle.std.specs.Prelude.{◌↔◌, IsTrue, nat_lt, Result, Ok, Err, OnOk}
 use borrow.Author.Tests.{ltb-true, ltb-false}
 use Rattle.std.proofs.lemmas.List.{append-nil, take_all, take_at}
+use Rattle.acct_types.specs.declared.cell.Cell.{Cell}
 use Rattle.acct_types.specs.declared.flow.Counts.{Counts}
 use Rattle.capture_file.specs.Capture.{datagrams_of}
 use Rattle.outside_io.specs.declared.fault.IoFault.{IoFault}
@@ -13,16 +14,14 @@ use Rattle.acct_top.specs.declared.answer.Answer.{Answer}
 use Rattle.acct_top.specs.declared.answer.Answer.TheVariants.{Done, Usage, ConfigRefused, OpenFault, FlowFault, CaptureBad, WriteFault, SayFault, NoMemory}
 use Rattle.acct_top.specs.declared.count.Texts.{Texts}
 use Rattle.acct_top.specs.declared.job.Job.{Job}
-use Rattle.acct_top.specs.declared.key.FlowKey.{FlowKey}
 use Rattle.acct_top.specs.Answers.{HoldsOfJob, JobReason}
 use Rattle.acct_top.specs.Audit.{audit_text}
 use Rattle.acct_top.specs.Conservation.{flows_of, HoldsText, IsAccountedButFor, IsWholeCapture, KeepsOthers, MOST_CAPTURE, MOST_EVENTS}
-use Rattle.acct_top.specs.Csv.{purge_text}
+use Rattle.acct_top.specs.Output.{rows_text}
 use Rattle.acct_top.specs.Due.{due}
 use Rattle.acct_top.specs.Run.{AreBegun, AreTextsOf, Decides, HoldsFront, ReadsCapture}
 use Rattle.acct_top.specs.State.{State}
-use Rattle.acct_top.specs.Sums.{IsPurge}
-use Rattle.acct_top.proofs.SumLemmas.{conserve}
+use Rattle.plugin_cache.specs.Sums.{IsPurge, PurgesConserve}
 
 nil_front : (a b : List ℕ) → a ++ b ≡ [] → a ≡ []
 nil_front [] b h = refl
@@ -67,23 +66,23 @@ pub record RunFacts (job : Job) (before after : State) (failed whole : Bool) (ou
   pub read_whole : failed ≡ false → length octets < MOST_CAPTURE → rest ≡ []
   pub risen : failed ≡ true → Rose (before.reads job.capture) (after.reads job.capture)
   pub whole_is : IsTrue whole ↔ IsWholeCapture octets
-  pub rows : List (FlowKey × Counts)
-  pub purge : IsPurge (due (flows_of octets)) rows
+  pub rows : List (List Cell × Counts)
+  pub purge : IsPurge (due job (flows_of octets)) rows
   pub between : Names
   pub first : Names
-  pub wrote : Finished first between job.output (old_octets before.names job.output) (purge_text rows) output (Rose (before.writes job.output) (after.writes job.output))
+  pub wrote : Finished first between job.plugin.file (old_octets before.names job.plugin.file) (rows_text job rows) output (Rose (before.writes job.plugin.file) (after.writes job.plugin.file))
   pub wrote_audit : Finished between after.names job.audit [] (audit_text (flows_of octets)) audit (Rose (before.writes job.audit) (after.writes job.audit))
   pub others : KeepsOthers job before.names after.names
 
 pub run_facts : (job : Job) (before after : State) (n1 n2 : Names) (failed whole : Bool) (octets : List ℕ) (texts : Texts) (output audit : Result (Unit {0}) IoFault)
     → AreBegun job before.names n1 → ReadsCapture failed octets (n1 job.capture) (after.taken job.capture) → length octets ≤ MOST_CAPTURE
     → (failed ≡ true → Rose (before.reads job.capture) (after.reads job.capture))
-    → AreTextsOf (flows_of octets) texts → (IsTrue whole ↔ IsWholeCapture octets)
-    → Finished n1 n2 job.output (old_octets n1 job.output) texts.output output (Rose (before.writes job.output) (after.writes job.output))
+    → AreTextsOf job (flows_of octets) texts → (IsTrue whole ↔ IsWholeCapture octets)
+    → Finished n1 n2 job.plugin.file (old_octets n1 job.plugin.file) texts.output output (Rose (before.writes job.plugin.file) (after.writes job.plugin.file))
     → Finished n2 after.names job.audit [] texts.audit audit (Rose (before.writes job.audit) (after.writes job.audit))
     → RunFacts job before after failed whole output audit
 run_facts job before after n1 n2 failed whole octets texts output audit begun read bound risen are_texts whole_is wrote wrote_audit =
-    let start : old_octets n1 job.output ≡ old_octets before.names job.output = ap (λ (o : Option (List ℕ)). unwrap_or o []) begun.output in
+    let start : old_octets n1 job.plugin.file ≡ old_octets before.names job.plugin.file = ap (λ (o : Option (List ℕ)). unwrap_or o []) begun.output in
     let unchanged : n1 job.capture ≡ before.names job.capture = begun.others job.capture (λ e. job.output_capture (sym e)) job.capture_audit in
     record {
       octets = octets;
@@ -98,21 +97,21 @@ run_facts job before after n1 n2 failed whole octets texts output audit begun re
       purge = are_texts.output.purge;
       between = n2;
       first = n1;
-      wrote = subst (λ (text : List ℕ). Finished n1 n2 job.output (old_octets before.names job.output) text output (Rose (before.writes job.output) (after.writes job.output))) are_texts.output.is
-          (subst (λ (s : List ℕ). Finished n1 n2 job.output s texts.output output (Rose (before.writes job.output) (after.writes job.output))) start wrote);
+      wrote = subst (λ (text : List ℕ). Finished n1 n2 job.plugin.file (old_octets before.names job.plugin.file) text output (Rose (before.writes job.plugin.file) (after.writes job.plugin.file))) are_texts.output.is
+          (subst (λ (s : List ℕ). Finished n1 n2 job.plugin.file s texts.output output (Rose (before.writes job.plugin.file) (after.writes job.plugin.file))) start wrote);
       wrote_audit = subst (λ (text : List ℕ). Finished n2 after.names job.audit [] text audit (Rose (before.writes job.audit) (after.writes job.audit))) are_texts.audit wrote_audit;
       others = λ name a b. wrote_audit.others name b ∙ wrote.others name a ∙ begun.others name a b;
     }
 
 -- the outputs of a run, unless memory ran out
-accounted : (job : Job) (before after : State) (failed whole : Bool) (output audit : Result (Unit {0}) IoFault) (f : RunFacts job before after failed whole output audit)
+accounted : PurgesConserve → (job : Job) (before after : State) (failed whole : Bool) (output audit : Result (Unit {0}) IoFault) (f : RunFacts job before after failed whole output audit)
     → (output ≢ Err io.NoMemory) → (audit ≢ Err io.NoMemory) → IsAccountedButFor job (flows_of f.octets) before after
-accounted job before after failed whole output audit f some some_audit = record {
+accounted conserve job before after failed whole output audit f some some_audit = record {
   audit = held_text _ _ _ _ _ _ _ f.wrote_audit some_audit;
   rows = f.rows;
   purge = f.purge;
-  output = subst (λ (o : Option (List ℕ)). HoldsText (Rose (before.writes job.output) (after.writes job.output)) (old_octets before.names job.output) (purge_text f.rows) o)
-      (sym (f.wrote_audit.others job.output job.output_audit)) (held_text _ _ _ _ _ _ _ f.wrote some);
+  output = subst (λ (o : Option (List ℕ)). HoldsText (Rose (before.writes job.plugin.file) (after.writes job.plugin.file)) (old_octets before.names job.plugin.file) (rows_text job f.rows) o)
+      (sym (f.wrote_audit.others job.plugin.file job.output_audit)) (held_text _ _ _ _ _ _ _ f.wrote some);
   sums = conserve _ f.rows f.purge;
   others = f.others;
 }
@@ -134,9 +133,9 @@ same_flows octets rest bound all = ap (datagrams_of MOST_EVENTS) (take_front MOS
 apart : (b : Bool) → b ≡ true → b ≡ false → ⊥
 apart b is_true is_false = let e : true ≡ false = sym is_true ∙ is_false in cc e
 
-pub job_holds : (answer : Answer) (job : Job) (before after : State) (failed whole : Bool) (output audit : Result (Unit {0}) IoFault) → Decides answer job failed whole output audit
+pub job_holds : PurgesConserve → (answer : Answer) (job : Job) (before after : State) (failed whole : Bool) (output audit : Result (Unit {0}) IoFault) → Decides answer job failed whole output audit
     → RunFacts job before after failed whole output audit → HoldsOfJob answer job before after
-job_holds Done job before after failed whole output audit d f =
+job_holds conserve Done job before after failed whole output audit d f =
     let is_whole = f.whole_is.0 d.1 in
     let none : f.rest ≡ [] = f.read_whole d.0 is_whole.0 in
     record {
@@ -148,14 +147,14 @@ job_holds Done job before after failed whole output audit d f =
         audit = f.wrote_audit.ok d.3;
         rows = f.rows;
         purge = f.purge;
-        output = f.wrote_audit.others job.output job.output_audit ∙ f.wrote.ok d.2;
+        output = f.wrote_audit.others job.plugin.file job.output_audit ∙ f.wrote.ok d.2;
         sums = conserve _ f.rows f.purge;
         others = f.others;
       };
     }
-job_holds FlowFault job before after failed whole output audit d f =
-    record { octets = f.octets; rest = f.rest; capture = f.capture; taken = f.taken; failed = f.risen d.0; accounted = accounted job before after failed whole output audit f d.1 d.2 }
-job_holds (CaptureBad flows place cause) job before after failed whole output audit d f = (
+job_holds conserve FlowFault job before after failed whole output audit d f =
+    record { octets = f.octets; rest = f.rest; capture = f.capture; taken = f.taken; failed = f.risen d.0; accounted = accounted conserve job before after failed whole output audit f d.1 d.2 }
+job_holds conserve (CaptureBad flows place cause) job before after failed whole output audit d f = (
   d.0,
   d.1,
   d.2,
@@ -167,10 +166,10 @@ job_holds (CaptureBad flows place cause) job before after failed whole output au
         let none : f.rest ≡ [] = f.read_whole d.3 short in
         apart whole (f.whole_is.1 (subst IsWholeCapture (all_read f.octets f.rest none) is)) d.4;
     accounted = subst (λ (ds : _). IsAccountedButFor job ds before after) (sym (same_flows f.octets f.rest f.bound (f.read_whole d.3)))
-        (accounted job before after failed whole output audit f d.5 d.6);
+        (accounted conserve job before after failed whole output audit f d.5 d.6);
   },
 )
-job_holds (WriteFault name) job before after failed whole output audit d f =
+job_holds conserve (WriteFault name) job before after failed whole output audit d f =
     let is_whole = f.whole_is.0 d.1 in
     let none : f.rest ≡ [] = f.read_whole d.0 is_whole.0 in
     elim d.2 [
@@ -180,7 +179,7 @@ job_holds (WriteFault name) job before after failed whole output audit d f =
         whole = is_whole;
         which = inl first.0;
         failed = subst (λ (n : List ℕ). Rose (before.writes n) (after.writes n)) (sym first.0) (f.wrote.cause first.1);
-        accounted = accounted job before after failed whole output audit f (λ e. cc (first.1, e)) first.2;
+        accounted = accounted conserve job before after failed whole output audit f (λ e. cc (first.1, e)) first.2;
       }
       | inr second ↦ record {
         octets = f.octets;
@@ -188,19 +187,19 @@ job_holds (WriteFault name) job before after failed whole output audit d f =
         whole = is_whole;
         which = inr second.0;
         failed = subst (λ (n : List ℕ). Rose (before.writes n) (after.writes n)) (sym second.0) (f.wrote_audit.cause second.2);
-        accounted = accounted job before after failed whole output audit f (λ e. cc (second.1, e)) (λ e. cc (second.2, e));
+        accounted = accounted conserve job before after failed whole output audit f (λ e. cc (second.1, e)) (λ e. cc (second.2, e));
       }
     ]
-job_holds NoMemory job before after failed whole output audit d f = tt
-job_holds (OpenFault name) job before after failed whole output audit d f = absurd d
-job_holds Usage job before after failed whole output audit d f = absurd d
-job_holds (ConfigRefused file line cause) job before after failed whole output audit d f = absurd d
-job_holds SayFault job before after failed whole output audit d f = absurd d
+job_holds conserve NoMemory job before after failed whole output audit d f = tt
+job_holds conserve (OpenFault name) job before after failed whole output audit d f = absurd d
+job_holds conserve Usage job before after failed whole output audit d f = absurd d
+job_holds conserve (ConfigRefused file line cause) job before after failed whole output audit d f = absurd d
+job_holds conserve SayFault job before after failed whole output audit d f = absurd d
 
 -- a fault is answered only where its number rose
 pub job_reason : (answer : Answer) (job : Job) (before after : State) (failed whole : Bool) (output audit : Result (Unit {0}) IoFault) → Decides answer job failed whole output audit
     → (failed ≡ true → Rose (before.reads job.capture) (after.reads job.capture))
-    → (output ≡ Err io.Failed → Rose (before.writes job.output) (after.writes job.output)) → (audit ≡ Err io.Failed → Rose (before.writes job.audit) (after.writes job.audit))
+    → (output ≡ Err io.Failed → Rose (before.writes job.plugin.file) (after.writes job.plugin.file)) → (audit ≡ Err io.Failed → Rose (before.writes job.audit) (after.writes job.audit))
     → JobReason answer before after
 job_reason Done job before after failed whole output audit d risen wrote wrote_audit = tt
 job_reason FlowFault job before after failed whole output audit d risen wrote wrote_audit = (job.capture, risen d.0)

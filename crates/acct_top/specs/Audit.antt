@@ -7,7 +7,7 @@ use Rattle.netflow_in.specs.declared.refusal.Cause.TheVariants as cause
 use Rattle.acct_top.specs.declared.audit.Event.{Event}
 use Rattle.acct_top.specs.declared.audit.Event.TheVariants.{Refused, End}
 use Rattle.acct_top.specs.declared.audit.Totals.{Totals}
-use Rattle.acct_top.specs.Due.{due}
+use Rattle.acct_top.specs.Due.{records_of}
 
 -- the words of a cause
 abbrev pub cause_text : Cause → List ℕ
@@ -55,7 +55,7 @@ abbrev pub totals_of : List Datagram → Totals
 totals_of flows = record {
   datagrams = length flows;
   refused = length (refusals 1 flows);
-  records = length (due flows);
+  records = length (records_of flows);
   dropped = 0;
   messages = 0;
   closed = 0;

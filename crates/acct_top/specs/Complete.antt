@@ -10,6 +10,7 @@ use Rattle.acct_top.specs.declared.job.Job.{Job}
 use Rattle.acct_top.specs.Answers.{IsConfigRefused, NamesFile, OfJob}
 use Rattle.acct_top.specs.Conservation.{IsWholeCapture}
 use Rattle.acct_top.specs.State.{State}
+use Rattle.config_keys.specs.declared.tool.Tool.{Tool}
 
 -- no number of faults rose
 pub record NoneRose (before after : State) (says_before says_after : ℕ) : Type 0 where
@@ -23,14 +24,14 @@ abbrev pub HasCapture : Names → Job → (List ℕ → Type 0) → Type 0
 HasCapture names job P = (octets : List ℕ) × (names job.capture ≡ Some octets) × P octets
 
 -- The answers that are owed to the words and to the octets of the files.
-pub record IsOwed (answer : Answer) (words : List (List ℕ)) (before after : State) (says_before says_after : ℕ) : Type 0 where
+pub record IsOwed (answer : Answer) (tool : Tool) (words : List (List ℕ)) (before after : State) (says_before says_after : ℕ) : Type 0 where
   -- accepted words and configuration, a whole capture and no fault give Done, unless memory runs out
-  pub complete : NoneRose before after says_before says_after → OfJob words before.names (λ job. HasCapture before.names job IsWholeCapture) → (answer ≡ Done) ⊎ (answer ≡ NoMemory)
+  pub complete : NoneRose before after says_before says_after → OfJob tool words before.names (λ job. HasCapture before.names job IsWholeCapture) → (answer ≡ Done) ⊎ (answer ≡ NoMemory)
   -- words that name no file are answered by Usage
-  pub usage : ((file : List ℕ) → NamesFile words file → ⊥) → (answer ≡ Usage) ⊎ (answer ≡ NoMemory)
+  pub usage : ((file : List ℕ) → NamesFile tool words file → ⊥) → (answer ≡ Usage) ⊎ (answer ≡ NoMemory)
   -- a configuration that is refused is answered so, unless it couldn't be read
-  pub refused : (file : List ℕ) (line : ℕ) (cause : AnyCause) → IsConfigRefused words file line cause before.names
+  pub refused : (file : List ℕ) (line : ℕ) (cause : AnyCause) → IsConfigRefused tool words file line cause before.names
       → (answer ≡ ConfigRefused file line cause) ⊎ ((answer ≡ OpenFault file) ⊎ (answer ≡ NoMemory))
   -- a capture that isn't whole is answered so, unless an open or a read failed
-  pub bad : OfJob words before.names (λ job. HasCapture before.names job (λ octets. IsWholeCapture octets → ⊥))
+  pub bad : OfJob tool words before.names (λ job. HasCapture before.names job (λ octets. IsWholeCapture octets → ⊥))
       → (answer ≡ CaptureBad true 0 Magic) ⊎ ((answer ≡ FlowFault) ⊎ (((name : List ℕ) × (answer ≡ OpenFault name)) ⊎ (answer ≡ NoMemory)))

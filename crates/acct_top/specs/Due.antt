@@ -1,33 +1,39 @@
 -- The entries that the plugin is owed: one for each record of each datagram that is decoded, in their order.
-use Rattle.std.specs.Prelude.{List, [], Ok, Err, map, flat_map, unwrap_or}
-use Rattle.acct_types.specs.declared.addr.Addr.TheVariants.{V4}
+use Rattle.std.specs.Prelude.{ℕ, ◌*◌, ◌/◌, List, [], Ok, Err, None, map, flat_map}
+use Rattle.acct_types.specs.declared.cell.Cell.{Cell}
 use Rattle.acct_types.specs.declared.datagram.Datagram.{Datagram}
 use Rattle.acct_types.specs.declared.flow.Counts.{Counts}
 use Rattle.acct_types.specs.declared.flow.FlowRecord.{FlowRecord}
 use Rattle.netflow_in.specs.declared.decoded.RawRecord.{RawRecord}
 use Rattle.netflow_in.specs.Version5.{decoded_v5}
-use Rattle.acct_top.specs.declared.key.FlowKey.{FlowKey}
+use Rattle.primitive_keys.specs.KeyCells.{key_cells_of}
+use Rattle.acct_top.specs.declared.job.Job.{Job}
 
--- what a record is counted under; an absent number is 0, and an absent address 0.0.0.0
-abbrev pub key_of : FlowRecord → FlowKey
-key_of flow = record {
-  src = unwrap_or flow.src (V4 0);
-  dst = unwrap_or flow.dst (V4 0);
-  src_port = unwrap_or flow.src_port 0;
-  dst_port = unwrap_or flow.dst_port 0;
-  proto = unwrap_or flow.proto 0;
-}
+-- the first moment of the window that a moment lies in: windows follow each other from moment 0 on, each of so many seconds
+abbrev pub window_start : ℕ → ℕ → ℕ
+window_start seconds moment = moment / (1000 * seconds) * (1000 * seconds)
 
-abbrev pub entry_of : RawRecord → FlowKey × Counts
-entry_of row = (key_of row.flow, row.flow.counts)
+-- what a record is counted under; there are no routes, tags and labels so far
+abbrev pub key_in : Job → ℕ → FlowRecord → List Cell
+key_in job moment flow = key_cells_of job.plugin.primitives flow job.as_from None None no_tags None (window_start job.plugin.refresh moment)
 
-abbrev pub entries_of : List RawRecord → List (FlowKey × Counts)
-entries_of rows = map entry_of rows
+abbrev pub entry_of : Job → ℕ → RawRecord → List Cell × Counts
+entry_of job moment row = (key_in job moment row.flow, row.flow.counts)
 
--- the entries of a datagram; one that is refused has none
-abbrev pub entries_in : Datagram → List (FlowKey × Counts)
-entries_in d = elim (decoded_v5 d.exporter d.octets) [ Ok rows ↦ entries_of rows | Err cause ↦ [] ]
+abbrev pub entries_of : Job → ℕ → List RawRecord → List (List Cell × Counts)
+entries_of job moment rows = map (entry_of job moment) rows
+
+-- the records of a datagram; one that is refused has none
+abbrev pub records_in : Datagram → List RawRecord
+records_in d = elim (decoded_v5 d.exporter d.octets) [ Ok rows ↦ rows | Err cause ↦ [] ]
+
+-- the records of all datagrams
+abbrev pub records_of : List Datagram → List RawRecord
+records_of flows = flat_map records_in flows
+
+abbrev pub entries_in : Job → Datagram → List (List Cell × Counts)
+entries_in job d = entries_of job d.moment (records_in d)
 
 -- the entries of all datagrams
-abbrev pub due : List Datagram → List (FlowKey × Counts)
-due flows = flat_map entries_in flows
+abbrev pub due : Job → List Datagram → List (List Cell × Counts)
+due job flows = flat_map (entries_in job) flows

@@ -17,13 +17,13 @@ use Rattle.acct_top.specs.Output.{IsPurgeText}
 
 -- the outputs begin, and every other name has what it had
 pub record AreBegun (job : Job) (before after : Names) : Type 0 where
-  pub output : after job.output ≡ Some (old_octets before job.output)
+  pub output : after job.plugin.file ≡ Some (old_octets before job.plugin.file)
   pub audit : after job.audit ≡ Some []
   pub others : KeepsOthers job before after
 
 -- these are the texts of datagrams
-pub record AreTextsOf (flows : List Datagram) (texts : Texts) : Type 0 where
-  pub output : IsPurgeText (due flows) texts.output
+pub record AreTextsOf (job : Job) (flows : List Datagram) (texts : Texts) : Type 0 where
+  pub output : IsPurgeText job (due job flows) texts.output
   pub audit : texts.audit ≡ audit_text flows
 
 -- a name couldn't be opened, or memory ran out
@@ -54,6 +54,6 @@ Decides (CaptureBad flows place cause) job failed whole output audit =
     (flows ≡ true) × (place ≡ 0) × (cause ≡ Magic) × (failed ≡ false) × (whole ≡ false) × (output ≢ Err io.NoMemory) × (audit ≢ Err io.NoMemory)
 Decides (WriteFault name) job failed whole output audit =
     (failed ≡ false) × (whole ≡ true)
-    × (((name ≡ job.output) × (output ≡ Err io.Failed) × (audit ≢ Err io.NoMemory)) ⊎ ((name ≡ job.audit) × (output ≡ Ok tt) × (audit ≡ Err io.Failed)))
+    × (((name ≡ job.plugin.file) × (output ≡ Err io.Failed) × (audit ≢ Err io.NoMemory)) ⊎ ((name ≡ job.audit) × (output ≡ Ok tt) × (audit ≡ Err io.Failed)))
 Decides NoMemory job failed whole output audit = ⊤
 Decides answer job failed whole output audit = ⊥

@@ -3,8 +3,9 @@ use Rattle.std.specs.Prelude.{◌≡◌, ⊤, ℕ, Bool, List, [], ◌∷◌, �
 use Rattle.std.specs.Io.KnownBytes.{append_known}
 use Rattle.outside_io.specs.Causes.{Rose}
 use Rattle.outside_io.specs.Octets.{WritesFront}
-use Rattle.acct_top.specs.declared.answer.Tool.{Tool}
-use Rattle.acct_top.specs.declared.answer.Tool.TheVariants.{Nfacctd}
+use Rattle.config_keys.specs.Causes as config
+use Rattle.config_keys.specs.declared.tool.Tool.{Tool}
+use Rattle.config_keys.specs.declared.tool.Tool.TheVariants.{Nfacctd, Sfacctd, Pmbgpd}
 use Rattle.acct_top.specs.declared.answer.AnyCause.{AnyCause}
 use Rattle.acct_top.specs.declared.answer.AnyCause.TheVariants.{Config, TooLong}
 use Rattle.acct_top.specs.declared.answer.Answer.{Answer}
@@ -12,12 +13,16 @@ use Rattle.acct_top.specs.declared.answer.Answer.TheVariants.{Done, Usage, Confi
 
 abbrev pub tool_name : Tool → List ℕ
 tool_name Nfacctd = codes "nfacctd"
+tool_name Sfacctd = codes "sfacctd"
+tool_name Pmbgpd = codes "pmbgpd"
 
 unfoldable pub usage_line : Tool → List ℕ
 usage_line Nfacctd = codes "usage: nfacctd -f FILE | --generate NUMBER" ++ 10 ∷ []
+usage_line Sfacctd = codes "usage: sfacctd -f FILE" ++ 10 ∷ []
+usage_line Pmbgpd = codes "usage: pmbgpd -f FILE" ++ 10 ∷ []
 
 abbrev pub cause_text : AnyCause → List ℕ
-cause_text (Config cause) = codes "not-in-profile"
+cause_text (Config cause) = config.cause_text cause
 cause_text TooLong = codes "too-long"
 
 abbrev pub side_text : Bool → List ℕ

@@ -2,19 +2,7 @@ ghost use Rattle.std.specs.Prelude.{◌≡◌};
 ghost use Rattle.acct_top.specs.Status.{status_of};
 
 use acct_types::Text;
-
-/// A program.
-#[derive(Clone, Copy, Debug, PartialEq, Eq)]
-pub enum Tool {
-    Nfacctd,
-}
-
-/// Why a line of the configuration is refused.
-#[derive(Clone, Copy, Debug, PartialEq, Eq)]
-pub enum ConfigCause {
-    /// The line isn't one that is built so far.
-    NotInProfile,
-}
+use config_keys::ConfigCause;
 
 /// Why a file is refused.
 #[derive(Clone, Copy, Debug, PartialEq, Eq)]

@@ -6,7 +6,8 @@ ghost use Rattle.acct_top.specs.Complete.{IsOwed};
 ghost use Rattle.acct_top.specs.Say.{SaysAnswer};
 ghost use Rattle.acct_top.specs.State.{state_of};
 
-use crate::{Answer, Tool, account_alone};
+use crate::{Answer, account_alone};
+use config_keys::Tool;
 use outside_io::{MemoryPlace, MemorySink};
 use std::alloc::Global;
 
@@ -19,21 +20,21 @@ pub fn account_in_memory(
     say: &mut MemorySink,
 ) -> Answer
     // What holds after each answer; at Done the conservation theorem.
-    ensures holds { Holds result (map string_bytes words.now)
+    ensures holds { Holds result tool (map string_bytes words.now)
         (state_of place_names place_taken place_open_faults place_read_faults place_write_faults place.old)
         (state_of place_names place_taken place_open_faults place_read_faults place_write_faults place.new) }
 
     // Which answer is owed to the words and the files.
-    ensures owed { IsOwed result (map string_bytes words.now)
+    ensures owed { IsOwed result tool (map string_bytes words.now)
         (state_of place_names place_taken place_open_faults place_read_faults place_write_faults place.old)
         (state_of place_names place_taken place_open_faults place_read_faults place_write_faults place.new)
         (sink_faults say.old) (sink_faults say.new) }
 
     // Whatever the answer, a name that is no output of the words' configuration has the octets that it had.
-    ensures others { LeavesOthers (map string_bytes words.now) (place_names place.old) (place_names place.new) }
+    ensures others { LeavesOthers tool (map string_bytes words.now) (place_names place.old) (place_names place.new) }
 
     // A fault is answered only where its number rose.
-    ensures reason { HasReason result (map string_bytes words.now)
+    ensures reason { HasReason result tool (map string_bytes words.now)
         (state_of place_names place_taken place_open_faults place_read_faults place_write_faults place.old)
         (state_of place_names place_taken place_open_faults place_read_faults place_write_faults place.new)
         (sink_faults say.old) (sink_faults say.new) }

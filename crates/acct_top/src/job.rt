@@ -1,14 +1,16 @@
 ghost use Rattle.std.specs.Prelude.{◌≢◌};
 
-use acct_types::Text;
+use acct_types::{AsFrom, Text};
+use config_keys::PluginConfig;
 
-/// What a configuration names. The names differ.
-#[derive(Debug, Drop)]
+/// What a configuration asks for, as far as it is built: one plugin, a capture to replay and an audit. The names differ.
+#[derive(Drop)]
 pub struct Job {
-    pub output: Text,
+    pub plugin: PluginConfig,
+    pub as_from: AsFrom,
     pub capture: Text,
     pub audit: Text,
-    pub ghost output_capture: { output ≢ capture },
-    pub ghost output_audit: { output ≢ audit },
+    pub ghost output_capture: { plugin.file ≢ capture },
+    pub ghost output_audit: { plugin.file ≢ audit },
     pub ghost capture_audit: { capture ≢ audit },
 }

@@ -11,6 +11,7 @@ use crate::{Answer, BadCause, Job};
 use acct_types::{NoMemory, Octets, Text};
 use capture_file::{CaptureEnd, split_flows};
 use outside_io::{Begin, IoFault, Place, ReadOctets, read_all, write_all};
+use plugin_cache::purges_conserve;
 use std::alloc::Global;
 
 /// The most octets that the events of a capture may have.
@@ -111,11 +112,11 @@ fn open_all<P: Place>(place: &mut P, job: &Job) -> Result<Opened<P::In, P::Out>,
         Ok(input) => input,
         Err(fault) => return Err(open_fault(fault, &job.capture)),
     };
-    let output = match place.open_out(&job.output, Begin::Append) {
+    let output = match place.open_out(&job.plugin.file, Begin::Append) {
         Ok(output) => output,
         Err(fault) => {
             return match place.close_in(&job.capture, input) {
-                Ok(()) => Err(open_fault(fault, &job.output)),
+                Ok(()) => Err(open_fault(fault, &job.plugin.file)),
                 Err(NoMemory) => Err(Answer::NoMemory),
             };
         }
@@ -124,7 +125,7 @@ fn open_all<P: Place>(place: &mut P, job: &Job) -> Result<Opened<P::In, P::Out>,
         Ok(audit) => audit,
         Err(fault) => {
             let closed = place.close_in(&job.capture, input);
-            let emptied = close_empty(place, &job.output, Begin::Append, output);
+            let emptied = close_empty(place, &job.plugin.file, Begin::Append, output);
             if closed.is_err() || emptied.is_err() {
                 return Err(Answer::NoMemory);
             }
@@ -170,14 +171,14 @@ struct Counted {
 }
 
 /// Counts what a capture's octets spell.
-fn count_capture(alloc: Global, octets: &[u8]) -> Result<Counted, NoMemory>
+fn count_capture(alloc: Global, job: &Job, octets: &[u8]) -> Result<Counted, NoMemory>
     requires { length octets.now ≤ MOST_CAPTURE }
-    ensures texts { IfOk result (λ counted. AreTextsOf (flows_of octets.now) counted.texts) }
+    ensures texts { IfOk result (λ counted. AreTextsOf job.now (flows_of octets.now) counted.texts) }
     ensures whole { IfOk result (λ counted. IsTrue counted.whole ↔ IsWholeCapture octets.now) }
 {
     let capture = split_flows(alloc, octets, MOST_EVENTS)?;
     let whole = octets.len() < MOST_CAPTURE && capture.end == CaptureEnd::Ended;
-    let texts = run_texts(alloc, capture.datagrams.as_slice())?;
+    let texts = run_texts(alloc, job, capture.datagrams.as_slice())?;
     Ok(Counted { texts, whole })
 }
 
@@ -205,7 +206,7 @@ fn answer_of(
         };
     }
     if output.is_err() {
-        return write_fault(&job.output);
+        return write_fault(&job.plugin.file);
     }
     if audit.is_err() {
         return write_fault(&job.audit);
@@ -225,6 +226,7 @@ pub fn run_job<P: Place>(alloc: Global, place: &mut P, job: &Job) -> Answer
     ensures none_fell { NoneFell (state_of P.names P.taken P.open_faults P.read_faults P.write_faults place.old)
         (state_of P.names P.taken P.open_faults P.read_faults P.write_faults place.new) }
 {
+    purges_conserve();
     let Opened {
         input,
         output,
@@ -236,13 +238,13 @@ pub fn run_job<P: Place>(alloc: Global, place: &mut P, job: &Job) -> Answer
     let Ok(read) = read_capture(alloc, place, &job.capture, input) else {
         return Answer::NoMemory;
     };
-    let Ok(counted) = count_capture(alloc, read.octets.as_slice()) else {
+    let Ok(counted) = count_capture(alloc, job, read.octets.as_slice()) else {
         return Answer::NoMemory;
     };
     let texts = &counted.texts;
     let output = finish(
         place,
-        &job.output,
+        &job.plugin.file,
         Begin::Append,
         output,
         texts.output.as_slice(),

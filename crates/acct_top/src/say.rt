@@ -3,8 +3,9 @@ ghost use Rattle.outside_io.specs.Causes.{Rose};
 ghost use Rattle.acct_top.specs.Say.{answer_line, answer_text, cause_text, side_text, tool_name, usage_line, SaysAnswer};
 ghost use Rattle.acct_top.specs.Said.{IsSaidAs};
 
-use crate::{Answer, AnyCause, Tool};
+use crate::{Answer, AnyCause};
 use acct_types::{NoMemory, Octets, Text};
+use config_keys::Tool;
 use itoa::{Buffer, Integer};
 use outside_io::{IoFault, Sink, write_all};
 use std::alloc::Global;
@@ -14,6 +15,8 @@ fn tool_name(tool: Tool) -> &'static [u8]
 {
     match tool {
         Tool::Nfacctd => b"nfacctd",
+        Tool::Sfacctd => b"sfacctd",
+        Tool::Pmbgpd => b"pmbgpd",
     }
 }
 
@@ -23,14 +26,16 @@ fn usage_line(tool: Tool) -> &'static [u8]
 {
     match tool {
         Tool::Nfacctd => b"usage: nfacctd -f FILE | --generate NUMBER\n",
+        Tool::Sfacctd => b"usage: sfacctd -f FILE\n",
+        Tool::Pmbgpd => b"usage: pmbgpd -f FILE\n",
     }
 }
 
-fn cause_text(cause: AnyCause) -> &'static [u8]
+fn cause_text<'a>(cause: AnyCause) -> &'a [u8]
     ensures { result.now ≡ cause_text cause }
 {
     match cause {
-        AnyCause::Config(_) => b"not-in-profile",
+        AnyCause::Config(cause) => cause.text().as_bytes(),
         AnyCause::TooLong => b"too-long",
     }
 }

@@ -1,8 +1,6 @@
-use crate::{
-    Answer, AnyCause, ConfigCause, FlowKey, Tool, account_alone, account_in_memory, purge_text,
-    read_config, status,
-};
-use acct_types::{Addr, Counts, List, NoMemory, Octets, Text};
+use crate::{Answer, AnyCause, account_alone, account_in_memory, status};
+use acct_types::{List, NoMemory, Octets, Text};
+use config_keys::{ConfigCause, Tool};
 use outside_io::{MemoryPlace, MemorySink};
 use std::alloc::Global;
 use std::test::Fail;
@@ -113,7 +111,7 @@ const ONE_RECORD: Before = Before {
 enum Kind {
     Done,
     Usage,
-    Refused(u32),
+    Refused(u32, ConfigCause),
     TooLong,
     Unopened(&'static [u8]),
     FlowFault,
@@ -237,7 +235,7 @@ fn holds_parts(
 
 fn is_refused(file: &Text, line: u32, cause: AnyCause, wanted: Kind) -> bool {
     let right = match (cause, wanted) {
-        (AnyCause::Config(ConfigCause::NotInProfile), Kind::Refused(number)) => line == number,
+        (AnyCause::Config(cause), Kind::Refused(number, wanted)) => line == number && cause == wanted,
         (AnyCause::TooLong, Kind::TooLong) => line == 0,
         _ => false,
     };
@@ -620,7 +618,7 @@ const NOTHING: After = After {
 
 #[test]
 fn other_words_are_answered_by_the_usage(rt: HostRuntime) -> Result<(), Fail> {
-    let cases: [&'static [&'static str]; 7] = [
+    let cases: [&'static [&'static str]; 9] = [
         &[],
         &["-f"],
         &["nfacctd.conf"],
@@ -628,6 +626,8 @@ fn other_words_are_answered_by_the_usage(rt: HostRuntime) -> Result<(), Fail> {
         &["nfacctd.conf", "-f"],
         &["-f", "nfacctd.conf", "-f"],
         &["-f", "a", "--generate", "3"],
+        &["--generate", "3"],
+        &["-f", "-x"],
     ];
     for (index, words) in cases.iter().enumerate() {
         let before = Before {
@@ -640,103 +640,34 @@ fn other_words_are_answered_by_the_usage(rt: HostRuntime) -> Result<(), Fail> {
     Ok(())
 }
 
-const SIXTEEN: &[u8] = b"plugins: print[p";
+// Sixteen octets of a comment.
+const SIXTEEN: &[u8] = b"! a comment line";
 
 const TOO_LONG: &[u8] = b"nfacctd: nfacctd.conf:0: too-long\n";
 
-#[test]
-fn the_first_line_that_differs_is_told(rt: HostRuntime) -> Result<(), Fail> {
-    let cases: [(&'static [Part], Kind, &'static [u8]); 11] = [
-        (
-            &[],
-            Kind::Refused(1),
-            b"nfacctd: nfacctd.conf:1: not-in-profile\n",
-        ),
-        (
-            &[(65_536, SIXTEEN)],
-            Kind::Refused(1),
-            b"nfacctd: nfacctd.conf:1: not-in-profile\n",
-        ),
-        (&[(65_536, SIXTEEN), (1, b"]")], Kind::TooLong, TOO_LONG),
-        (
-            &[
-                (1, FIRST_LINES),
-                (1, b"print_output[q]: csv\n"),
-                (1, FOURTH_LINE),
-                (1, LAST_LINES),
-            ],
-            Kind::Refused(3),
-            b"nfacctd: nfacctd.conf:3: not-in-profile\n",
-        ),
-        (
-            &[
-                (1, FIRST_LINES),
-                (
-                    1,
-                    b"print_output[p]: csv\nprint_output_file[p]: nfacctd.conf\n",
-                ),
-                (1, LAST_LINES),
-            ],
-            Kind::Refused(4),
-            b"nfacctd: nfacctd.conf:4: not-in-profile\n",
-        ),
-        (
-            &[
-                (1, FIRST_LINES),
-                (
-                    1,
-                    b"print_output[p]: csv\nprint_output_file[p]: flows.cap\n",
-                ),
-                (1, LAST_LINES),
-            ],
-            Kind::Refused(6),
-            b"nfacctd: nfacctd.conf:6: not-in-profile\n",
-        ),
-        (
-            &[
-                (1, FIRST_LINES),
-                (
-                    1,
-                    b"print_output[p]: csv\nprint_output_file[p]: audit.txt\n",
-                ),
-                (1, LAST_LINES),
-            ],
-            Kind::Refused(7),
-            b"nfacctd: nfacctd.conf:7: not-in-profile\n",
-        ),
-        (
-            &[
-                (1, FIRST_LINES),
-                (1, b"print_output[p]: csv\nprint_output_file[p]: \n"),
-                (1, LAST_LINES),
-            ],
-            Kind::Refused(4),
-            b"nfacctd: nfacctd.conf:4: not-in-profile\n",
-        ),
-        (
-            &[
-                (1, FIRST_LINES),
-                (1, b"print_output[p]: csv\n"),
-                (1, FOURTH_LINE),
-                (
-                    1,
-                    b"print_output_file_append: true\nacct_flow_capture: flows.cap\nacct_audit_file: audit.txt\n",
-                ),
-            ],
-            Kind::Refused(8),
-            b"nfacctd: nfacctd.conf:8: not-in-profile\n",
-        ),
-        (
-            &[(1, CONFIG), (1, b"! end\n")],
-            Kind::Refused(9),
-            b"nfacctd: nfacctd.conf:9: not-in-profile\n",
-        ),
-        (
-            &[(1, CONFIG), (1, b"\n")],
-            Kind::Refused(9),
-            b"nfacctd: nfacctd.conf:9: not-in-profile\n",
-        ),
-    ];
+const NOT_IN_PROFILE: &[u8] = b"nfacctd: nfacctd.conf:0: not-in-profile\n";
+
+const SAME_NAME: &[u8] = b"nfacctd: nfacctd.conf:0: same-name\n";
+
+const MISSING_KEY: &[u8] = b"nfacctd: nfacctd.conf:0: missing-key\n";
+
+// The configuration but for the names of its files.
+const NO_NAMES: &[u8] = b"plugins: print[p]\n\
+aggregate[p]: src_host, dst_host, src_port, dst_port, proto\n\
+print_output[p]: csv\n\
+print_output_file_append: true\n\
+acct_threads: false\n";
+
+const NOTHING_BUILT: Kind = Kind::Refused(0, ConfigCause::NotInProfile);
+
+const SHARED: Kind = Kind::Refused(0, ConfigCause::SameName);
+
+const LACKING: Kind = Kind::Refused(0, ConfigCause::MissingKey);
+
+// A configuration, its answer and the line.
+type Refused = (&'static [Part], Kind, &'static [u8]);
+
+fn refusals(rt: &HostRuntime, cases: &[Refused]) -> Result<(), Fail> {
     for (index, (config, answer, line)) in cases.iter().enumerate() {
         let before = Before {
             config: Some(*config),
@@ -747,6 +678,225 @@ fn the_first_line_that_differs_is_told(rt: HostRuntime) -> Result<(), Fail> {
             status: 2,
             line: *line,
             ..NOTHING
+        };
+        let found = difference(rt.alloc(), &before, &after)?;
+        assert_eq!(*rt; found, "none", "case {index}");
+    }
+    Ok(())
+}
+
+#[test]
+fn each_cause_is_told_with_its_line(rt: HostRuntime) -> Result<(), Fail> {
+    let cases: [Refused; 8] = [
+        (&[], LACKING, MISSING_KEY),
+        (&[(65_536, SIXTEEN)], LACKING, MISSING_KEY),
+        (&[(65_536, SIXTEEN), (1, b"!")], Kind::TooLong, TOO_LONG),
+        (
+            &[
+                (1, FIRST_LINES),
+                (1, b"print_output[q]: csv\n"),
+                (1, FOURTH_LINE),
+                (1, LAST_LINES),
+            ],
+            Kind::Refused(3, ConfigCause::UnknownPlugin),
+            b"nfacctd: nfacctd.conf:3: unknown-plugin\n",
+        ),
+        (
+            &[(1, CONFIG), (1, b"print_outputs: csv\n")],
+            Kind::Refused(9, ConfigCause::UnknownKey),
+            b"nfacctd: nfacctd.conf:9: unknown-key\n",
+        ),
+        (
+            &[(1, CONFIG), (1, b"\nnfacctd_port: 65536")],
+            Kind::Refused(10, ConfigCause::BadValue),
+            b"nfacctd: nfacctd.conf:10: bad-value\n",
+        ),
+        (
+            &[(1, CONFIG), (1, b"acct_threads: true\n")],
+            Kind::Refused(9, ConfigCause::Repeated),
+            b"nfacctd: nfacctd.conf:9: repeated\n",
+        ),
+        (
+            &[
+                (1, NO_NAMES),
+                (1, b"print_output_file: p.csv\nacct_flow_capture: p.csv\n"),
+            ],
+            SHARED,
+            SAME_NAME,
+        ),
+    ];
+    refusals(&rt, &cases)
+}
+
+#[test]
+fn what_is_not_built_yet_is_refused_at_no_line(rt: HostRuntime) -> Result<(), Fail> {
+    let cases: [Refused; 11] = [
+        (
+            &[(1, CONFIG), (1, b"nfacctd_renormalize: true\n")],
+            NOTHING_BUILT,
+            NOT_IN_PROFILE,
+        ),
+        (
+            &[(1, CONFIG), (1, b"pre_tag_map: tags.map\n")],
+            NOTHING_BUILT,
+            NOT_IN_PROFILE,
+        ),
+        (
+            &[(1, CONFIG), (1, b"sampling_map: rates.map\n")],
+            NOTHING_BUILT,
+            NOT_IN_PROFILE,
+        ),
+        (
+            &[(1, CONFIG), (1, b"bgp_agent_map: agents.map\n")],
+            NOTHING_BUILT,
+            NOT_IN_PROFILE,
+        ),
+        (
+            &[
+                (1, CONFIG),
+                (1, b"bgp_daemon: true\nacct_route_capture: routes.cap\n"),
+            ],
+            NOTHING_BUILT,
+            NOT_IN_PROFILE,
+        ),
+        (
+            &[
+                (1, CONFIG),
+                (1, b"bmp_daemon: true\nacct_route_capture: routes.cap\n"),
+            ],
+            NOTHING_BUILT,
+            NOT_IN_PROFILE,
+        ),
+        (
+            &[(
+                1,
+                b"plugins: print[p], print[q]\nprint_output_file[p]: p.csv\nprint_output_file[q]: q.csv\n\
+print_output_file_append: true\nacct_flow_capture: flows.cap\n",
+            )],
+            NOTHING_BUILT,
+            NOT_IN_PROFILE,
+        ),
+        (
+            &[(
+                1,
+                b"plugins: memory\nacct_memory_file: p.csv\nacct_flow_capture: flows.cap\n",
+            )],
+            NOTHING_BUILT,
+            NOT_IN_PROFILE,
+        ),
+        // What isn't built goes before the configuration's own name and before a capture that is missing.
+        (
+            &[
+                (1, NO_NAMES),
+                (1, b"print_output_file: nfacctd.conf\nnfacctd_renormalize: true\n"),
+            ],
+            NOTHING_BUILT,
+            NOT_IN_PROFILE,
+        ),
+        (
+            &[(1, NO_NAMES), (1, b"print_output_file: nfacctd.conf\n")],
+            SHARED,
+            SAME_NAME,
+        ),
+        (
+            &[(1, NO_NAMES), (1, b"print_output_file: p.csv\n")],
+            LACKING,
+            MISSING_KEY,
+        ),
+    ];
+    refusals(&rt, &cases)?;
+    let audit: [Refused; 1] = [(
+        &[
+            (1, NO_NAMES),
+            (
+                1,
+                b"print_output_file: p.csv\nacct_flow_capture: flows.cap\nacct_audit_file: nfacctd.conf\n",
+            ),
+        ],
+        SHARED,
+        SAME_NAME,
+    )];
+    refusals(&rt, &audit)
+}
+
+// The first lines, with these keys.
+const FILES: &[u8] = b"print_output_file: p.csv\n\
+print_output_file_append: true\n\
+acct_flow_capture: flows.cap\n";
+
+// The same datagram at 61000 ms.
+const AT_61000: &[u8] = b"\x04\0\0\0\0\0\0\xee\x48\xc0\0\x02\x01\xc3\x50\0\0\0\x48";
+
+#[test]
+fn each_layout_has_the_columns_that_are_asked_for(rt: HostRuntime) -> Result<(), Fail> {
+    let cases: [(&'static [Part], &'static [u8]); 7] = [
+        (
+            &[(1, b"plugins: print\naggregate: proto\n"), (1, FILES)],
+            b"PROTOCOL  PACKETS               BYTES\n6         10                    840\n",
+        ),
+        (
+            &[
+                (
+                    1,
+                    b"plugins: print[p]\naggregate[p]: proto, tos\nprint_output[p]: json\n",
+                ),
+                (1, FILES),
+            ],
+            b"{\"bytes\":840,\"ip_proto\":6,\"packets\":10,\"tos\":0}\n",
+        ),
+        (
+            &[
+                (
+                    1,
+                    b"plugins: print[p]\naggregate[p]: acct_window, flows\nprint_output: csv\n",
+                ),
+                (1, FILES),
+            ],
+            b"WINDOW,PACKETS,FLOWS,BYTES\n60000,10,1,840\n",
+        ),
+        (
+            &[
+                (
+                    1,
+                    b"plugins: print[p]\naggregate[p]: acct_window\nprint_output: csv\nprint_refresh_time: 7\n",
+                ),
+                (1, FILES),
+            ],
+            b"WINDOW,PACKETS,BYTES\n56000,10,840\n",
+        ),
+        (
+            &[
+                (1, b"plugins: print\naggregate: flows\nprint_output: csv\n"),
+                (1, FILES),
+            ],
+            b"PACKETS,FLOWS,BYTES\n10,1,840\n",
+        ),
+        (
+            &[
+                (
+                    1,
+                    b"plugins: print\naggregate: dst_port, src_net, peer_src_ip, label, src_mac, as_path\n\
+print_output: csv\n",
+                ),
+                (1, FILES),
+            ],
+            b"LABEL,SRC_MAC,AS_PATH,PEER_SRC_IP,SRC_NET,DST_PORT,PACKETS,BYTES\n\
+,00:00:00:00:00:00,,192.0.2.1,0.0.0.0,80,10,840\n",
+        ),
+        (
+            &[(1, b"plugins: print\nprint_output: csv\n"), (1, FILES)],
+            b"SRC_IP,PACKETS,BYTES\n10.0.0.1,10,840\n",
+        ),
+    ];
+    for (index, (config, output)) in cases.iter().enumerate() {
+        let before = Before {
+            config: Some(*config),
+            capture: Some(&[(1, MAGIC), (1, AT_61000), (1, ONE), (1, REST), (1, RECORD)]),
+            ..ONE_RECORD
+        };
+        let after = After {
+            output: Some(*output),
+            ..ONE_ROW
         };
         let found = difference(rt.alloc(), &before, &after)?;
         assert_eq!(rt; found, "none", "case {index}");
@@ -917,30 +1067,5 @@ fn rows_of_many_records_order_by_number(rt: HostRuntime) -> Result<(), Fail> {
             Some(b"end 340 0 10200 0 0 0\n")
         )?
     );
-    Ok(())
-}
-
-#[test]
-fn a_configuration_and_a_purge(rt: HostRuntime) -> Result<(), Fail> {
-    let alloc = rt.alloc();
-    let file = Text::from_slice(alloc, b"nfacctd.conf")?;
-    let job = read_config(alloc, &file, CONFIG).map_err(|_| "it is refused")?;
-    assert_eq!(rt; job.output.as_slice(), b"p.csv".as_slice());
-    assert_eq!(rt; job.capture.as_slice(), b"flows.cap".as_slice());
-    assert_eq!(rt; job.audit.as_slice(), b"audit.txt".as_slice());
-    let key = FlowKey {
-        src: Addr::V4(0x0a00_0001),
-        dst: Addr::V4(0x0a00_0002),
-        src_port: 1024,
-        dst_port: 80,
-        proto: 6,
-    };
-    let counts = Counts {
-        bytes: 840,
-        packets: 10,
-        flows: 1,
-    };
-    let text = purge_text(alloc, &[(key, counts)])?;
-    assert_eq!(rt; text.as_slice(), ROWS);
     Ok(())
 }

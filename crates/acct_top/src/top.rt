@@ -4,10 +4,12 @@ ghost use Rattle.acct_top.specs.Complete.{IsOwed};
 ghost use Rattle.acct_top.specs.Say.{SaysAnswer};
 ghost use Rattle.acct_top.specs.State.{state_of};
 
+use crate::read_job::{Refusal, read_job};
 use crate::run::run_job;
 use crate::say::say_answer;
-use crate::{Answer, AnyCause, ConfigCause, ConfigFault, Tool, read_config};
-use acct_types::{List, NoMemory, Text};
+use crate::{Answer, AnyCause};
+use acct_types::{NoMemory, Text};
+use config_keys::{Tool, UsageFault, Words, read_words};
 use outside_io::{IoFault, Place, Sink, read_name};
 use std::alloc::Global;
 
@@ -15,30 +17,29 @@ use std::alloc::Global;
 const MOST_CONFIG: usize = 1_048_576;
 
 // The file that the words name.
-fn named_file(alloc: Global, words: &[String]) -> Result<Option<Text>, NoMemory>
-    ensures named { IfOk result (λ found. IfSome found (λ file. NamesFile (map string_bytes words.now) file)) }
-    ensures none { IfOk result (λ found. IfNone found ((file : List ℕ) → NamesFile (map string_bytes words.now) file → ⊥)) }
+fn named_file(alloc: Global, tool: Tool, words: &[String]) -> Result<Option<Text>, NoMemory>
+    ensures named { IfOk result (λ found. IfSome found (λ file. NamesFile tool (map string_bytes words.now) file)) }
+    ensures none { IfOk result (λ found. IfNone found ((file : List ℕ) → NamesFile tool (map string_bytes words.now) file → ⊥)) }
 {
-    let [option, file] = words else {
-        return Ok(None);
-    };
-    if option.as_str() != "-f" {
-        return Ok(None);
+    match read_words(alloc, tool, words) {
+        Ok(Words::Config(file)) => Ok(Some(file)),
+        Ok(Words::Generate(_)) => Ok(None),
+        Err(UsageFault::NoMemory) => Err(NoMemory),
+        Err(_) => Ok(None),
     }
-    Ok(Some(List::from_slice(alloc, file.as_bytes())?))
 }
 
 // Reads the words and the configuration, and does the job.
-fn run<P: Place>(alloc: Global, words: &[String], place: &mut P) -> Answer
-    ensures holds { IsTrue P.tells → Holds result (map string_bytes words.now)
+fn run<P: Place>(alloc: Global, tool: Tool, words: &[String], place: &mut P) -> Answer
+    ensures holds { IsTrue P.tells → Holds result tool (map string_bytes words.now)
         (state_of P.names P.taken P.open_faults P.read_faults P.write_faults place.old)
         (state_of P.names P.taken P.open_faults P.read_faults P.write_faults place.new) }
-    ensures others { IsTrue P.tells → LeavesOthers (map string_bytes words.now) (P.names place.old) (P.names place.new) }
-    ensures reason { RunReason result (map string_bytes words.now)
+    ensures others { IsTrue P.tells → LeavesOthers tool (map string_bytes words.now) (P.names place.old) (P.names place.new) }
+    ensures reason { RunReason result tool (map string_bytes words.now)
         (state_of P.names P.taken P.open_faults P.read_faults P.write_faults place.old)
         (state_of P.names P.taken P.open_faults P.read_faults P.write_faults place.new) }
 {
-    let file = match named_file(alloc, words) {
+    let file = match named_file(alloc, tool, words) {
         Ok(Some(file)) => file,
         Ok(None) => return Answer::Usage,
         Err(NoMemory) => return Answer::NoMemory,
@@ -55,14 +56,14 @@ fn run<P: Place>(alloc: Global, words: &[String], place: &mut P) -> Answer
             cause: AnyCause::TooLong,
         };
     }
-    match read_config(alloc, &file, text.as_slice()) {
+    match read_job(alloc, tool, &file, text.as_slice()) {
         Ok(job) => run_job(alloc, place, &job),
-        Err(ConfigFault::Differs { line }) => Answer::ConfigRefused {
+        Err(Refusal::At { line, cause }) => Answer::ConfigRefused {
             file,
             line,
-            cause: AnyCause::Config(ConfigCause::NotInProfile),
+            cause: AnyCause::Config(cause),
         },
-        Err(ConfigFault::NoMemory) => Answer::NoMemory,
+        Err(Refusal::NoMemory) => Answer::NoMemory,
     }
 }
 
@@ -76,21 +77,21 @@ pub fn account_alone<P: Place, S: Sink>(
     say: &mut S,
 ) -> Answer
     // Over a place that tells its octets, what holds after each answer; at Done the conservation theorem.
-    ensures holds { IsTrue P.tells → Holds result (map string_bytes words.now)
+    ensures holds { IsTrue P.tells → Holds result tool (map string_bytes words.now)
         (state_of P.names P.taken P.open_faults P.read_faults P.write_faults place.old)
         (state_of P.names P.taken P.open_faults P.read_faults P.write_faults place.new) }
 
     // Which answer is owed to the words and the files.
-    ensures owed { IsTrue P.tells → IsOwed result (map string_bytes words.now)
+    ensures owed { IsTrue P.tells → IsOwed result tool (map string_bytes words.now)
         (state_of P.names P.taken P.open_faults P.read_faults P.write_faults place.old)
         (state_of P.names P.taken P.open_faults P.read_faults P.write_faults place.new)
         (S.faults say.old) (S.faults say.new) }
 
     // Whatever the answer, a name that is no output of the words' configuration has the octets that it had.
-    ensures others { IsTrue P.tells → LeavesOthers (map string_bytes words.now) (P.names place.old) (P.names place.new) }
+    ensures others { IsTrue P.tells → LeavesOthers tool (map string_bytes words.now) (P.names place.old) (P.names place.new) }
 
     // A fault is answered only where its number rose.
-    ensures reason { HasReason result (map string_bytes words.now)
+    ensures reason { HasReason result tool (map string_bytes words.now)
         (state_of P.names P.taken P.open_faults P.read_faults P.write_faults place.old)
         (state_of P.names P.taken P.open_faults P.read_faults P.write_faults place.new)
         (S.faults say.old) (S.faults say.new) }
@@ -98,7 +99,7 @@ pub fn account_alone<P: Place, S: Sink>(
     // The line of the answer was said.
     ensures said { SaysAnswer tool result (S.faults say.old) (S.faults say.new) (S.held say.old) (S.held say.new) }
 {
-    let answer = run(alloc, words, place);
+    let answer = run(alloc, tool, words, place);
     say_answer(alloc, tool, answer, say)
 }
 

@@ -1,7 +1,8 @@
 //! Reads a capture of NetFlow datagrams, and writes their counters.
 #![tactic(auto)]
 
-use acct_top::{Tool, account_alone, status};
+use acct_top::{account_alone, status};
+use config_keys::Tool;
 use outside_io::{FilePlace, SayOut};
 use std::process::ExitCode;
 use std::rt::Env;

@@ -14,8 +14,10 @@ use Rattle.acct_types.specs.declared.flow.Counts.{Counts}
 use Rattle.acct_types.specs.declared.cell.Cell.{Cell}
 use Rattle.acct_types.specs.Cells.{key_cmp, key_eq}
 use Rattle.acct_types.specs.Counts.{nothing, plus}
-use Rattle.plugin_cache.specs.Sums.{added, all_added, count_in, has_key, HaveOnePurge, keys_in, PurgesConserve, row_of, sums_of}
-use Rattle.acct_types.proofs.KeyLemmas.{exact_keys, key_cmp-total, key_equivalence}
+use Rattle.plugin_cache.specs.Sums.{added, all_added, count_in, EntriesAddUp, has_key, HaveOnePurge, keys_in, PurgesConserve, row_of, sums_of}
+use Rattle.std.specs.Cmp.{IsTotalOrder}
+use Rattle.std.proofs.lemmas.Cmp.{eq_by_cmp_equiv}
+use Rattle.std.proofs.lemmas.Map.Lookups.{CmpEqualImpliesEq}
 
 abbrev pub Rows : Type 0
 Rows = List (List Cell × Counts)
@@ -69,10 +71,10 @@ joined None later = later
 joined (Some first) later = Some (plus first (unwrap_or later nothing))
 
 -- an entry adds to the row of its key, and to no other
-pub row_added : (rows : Rows) (k : List Cell) (c : Counts) (q : List Cell)
+pub row_added : (total : IsTotalOrder key_cmp) (rows : Rows) (k : List Cell) (c : Counts) (q : List Cell)
     → lookup (key_eq q) (added rows k c) ≡ (if key_eq q k then Some (plus_or (lookup (key_eq q) rows) c) else lookup (key_eq q) rows)
-row_added [] k c q = refl
-row_added (e ∷ rows) k c q = by (key_eq k e.0) refl (row_added rows k c q)
+row_added total [] k c q = refl
+row_added total (e ∷ rows) k c q = by (key_eq k e.0) refl (row_added total rows k c q)
   where
     here : (b : Bool) → cond b (Some (plus e.1 c)) (lookup (key_eq q) rows) ≡ (if b then Some (plus_or (cond b (Some e.1) (lookup (key_eq q) rows)) c) else cond b (Some e.1) (lookup (key_eq q) rows))
     here true = refl
@@ -85,12 +87,12 @@ row_added (e ∷ rows) k c q = by (key_eq k e.0) refl (row_added rows k c q)
     later false d apart = refl
 
     apart : key_eq k e.0 ≡ false → key_eq q k ≡ true → key_eq q e.0 ≡ true → ⊥
-    apart other same there = let e : true ≡ false = sym there ∙ key_equivalence.congr q k e.0 same ∙ other in cc e
+    apart other same there = let e : true ≡ false = sym there ∙ (eq_by_cmp_equiv total).congr q k e.0 same ∙ other in cc e
 
     by : (b : Bool) → key_eq k e.0 ≡ b → lookup (key_eq q) (added rows k c) ≡ (if key_eq q k then Some (plus_or (lookup (key_eq q) rows) c) else lookup (key_eq q) rows)
         → lookup (key_eq q) (if b then (e.0, plus e.1 c) ∷ rows else e ∷ added rows k c) ≡ (if key_eq q k then Some (plus_or (lookup (key_eq q) (e ∷ rows)) c) else lookup (key_eq q) (e ∷ rows))
     by true same rest =
-        let one : key_eq q e.0 ≡ key_eq q k = key_equivalence.symm q e.0 ∙ sym (key_equivalence.congr k e.0 q same) ∙ key_equivalence.symm k q in
+        let one : key_eq q e.0 ≡ key_eq q k = (eq_by_cmp_equiv total).symm q e.0 ∙ sym ((eq_by_cmp_equiv total).congr k e.0 q same) ∙ (eq_by_cmp_equiv total).symm k q in
         rw one (here (key_eq q k))
     by false other rest = rw rest (later (key_eq q k) (key_eq q e.0) (apart other))
 
@@ -104,15 +106,15 @@ no_sums (e ∷ entries) q h = by (key_eq q e.0) h (no_sums entries q)
     by false h rest = rest h
 
 -- the row of a key after a list of entries
-rows_all : (entries rows : Rows) (q : List Cell) → lookup (key_eq q) (all_added rows entries) ≡ joined (lookup (key_eq q) rows) (row_of entries q)
-rows_all [] rows q = by (lookup (key_eq q) rows)
+rows_all : (total : IsTotalOrder key_cmp) (entries rows : Rows) (q : List Cell) → lookup (key_eq q) (all_added rows entries) ≡ joined (lookup (key_eq q) rows) (row_of entries q)
+rows_all total [] rows q = by (lookup (key_eq q) rows)
   where
     by : (o : Option Counts) → o ≡ joined o None
     by None = refl
     by (Some v) = ap Some (sym (nothing_last v))
-rows_all (e ∷ entries) rows q =
-    rows_all entries (added rows e.0 e.1) q
-    ∙ ap (λ (o : Option Counts). joined o (row_of entries q)) (row_added rows e.0 e.1 q)
+rows_all total (e ∷ entries) rows q =
+    rows_all total entries (added rows e.0 e.1) q
+    ∙ ap (λ (o : Option Counts). joined o (row_of entries q)) (row_added total rows e.0 e.1 q)
     ∙ by (key_eq q e.0) (lookup (key_eq q) rows) (has_key entries q) (no_sums entries q)
   where
     by : (b : Bool) (o : Option Counts) (h : Bool) → (h ≡ false → sums_of entries q ≡ nothing) → joined (if b then Some (plus_or o e.1) else o) (if h then Some (sums_of entries q) else None)
@@ -124,8 +126,8 @@ rows_all (e ∷ entries) rows q =
     by false o h none = refl
 
 -- the rows of a list of entries
-pub rows_of_entries : (entries : Rows) (q : List Cell) → lookup (key_eq q) (all_added [] entries) ≡ row_of entries q
-rows_of_entries entries q = rows_all entries [] q
+pub rows_of_entries : (total : IsTotalOrder key_cmp) (entries : Rows) (q : List Cell) → lookup (key_eq q) (all_added [] entries) ≡ row_of entries q
+rows_of_entries total entries q = rows_all total entries [] q
 
 -- one more entry
 pub all_added_more : (entries rows : Rows) (e : List Cell × Counts) → added (all_added rows entries) e.0 e.1 ≡ all_added rows (entries ++ e ∷ [])
@@ -133,8 +135,8 @@ all_added_more [] rows e = refl
 all_added_more (x ∷ entries) rows e = all_added_more entries (added rows x.0 x.1) e
 
 -- what a key has in the rows is what the entries sum to
-pub count_of_entries : (entries : Rows) (q : List Cell) → count_in (all_added [] entries) q ≡ sums_of entries q
-count_of_entries entries q = ap (λ (o : Option Counts). unwrap_or o nothing) (rows_of_entries entries q) ∙ by (has_key entries q) (no_sums entries q)
+pub count_of_entries : (total : IsTotalOrder key_cmp) (entries : Rows) (q : List Cell) → count_in (all_added [] entries) q ≡ sums_of entries q
+count_of_entries total entries q = ap (λ (o : Option Counts). unwrap_or o nothing) (rows_of_entries total entries q) ∙ by (has_key entries q) (no_sums entries q)
   where
     by : (h : Bool) → (h ≡ false → sums_of entries q ≡ nothing) → unwrap_or (if h then Some (sums_of entries q) else None) nothing ≡ sums_of entries q
     by true none = refl
@@ -165,27 +167,48 @@ found : (rows : Rows) (q : List Cell) → find key_cmp q rows ≡ lookup (key_eq
 found [] q = refl
 found (e ∷ rows) q = ap₂ (λ (b : Bool) (o : Option Counts). cond b (Some e.1) o) refl (found rows q)
 
-pub one_purge : HaveOnePurge
-one_purge entries some other a b =
-    same_entries key_cmp key_cmp-total exact_keys some other (in_order some a.order) (in_order other b.order)
+pub one_purge : IsTotalOrder key_cmp → CmpEqualImpliesEq key_cmp → HaveOnePurge
+one_purge total exact entries some other a b =
+    same_entries key_cmp total exact some other (in_order some a.order) (in_order other b.order)
     (λ q. found some q ∙ a.sums q ∙ sym (b.sums q) ∙ sym (found other q))
 
 -- a key below all others has no sums in them
-none_above : (q k : List Cell) (rows : Rows) → key_eq q k ≡ true → AllByRecursion (λ y. key_cmp k y ≡ Less) (keys_in rows) → sums_of rows q ≡ nothing
-none_above q k [] same h = refl
-none_above q k (e ∷ rows) same h =
-    let other : key_eq q e.0 ≡ false = key_equivalence.congr q k e.0 same ∙ rw h.0 refl in
-    rw other (none_above q k rows same h.1)
+none_above : (total : IsTotalOrder key_cmp) (q k : List Cell) (rows : Rows) → key_eq q k ≡ true → AllByRecursion (λ y. key_cmp k y ≡ Less) (keys_in rows) → sums_of rows q ≡ nothing
+none_above total q k [] same h = refl
+none_above total q k (e ∷ rows) same h =
+    let other : key_eq q e.0 ≡ false = (eq_by_cmp_equiv total).congr q k e.0 same ∙ rw h.0 refl in
+    rw other (none_above total q k rows same h.1)
 
 -- in rows in order a key has what its row has
-sums_of_rows : (rows : Rows) (q : List Cell) → IsStrictlySortedBy key_cmp (keys_in rows) → sums_of rows q ≡ unwrap_or (lookup (key_eq q) rows) nothing
-sums_of_rows [] q h = refl
-sums_of_rows (e ∷ rows) q h = by (key_eq q e.0) refl (sums_of_rows rows q (sorted_tail key_cmp e.0 (keys_in rows) h))
+sums_of_rows : (total : IsTotalOrder key_cmp) (rows : Rows) (q : List Cell) → IsStrictlySortedBy key_cmp (keys_in rows) → sums_of rows q ≡ unwrap_or (lookup (key_eq q) rows) nothing
+sums_of_rows total [] q h = refl
+sums_of_rows total (e ∷ rows) q h = by (key_eq q e.0) refl (sums_of_rows total rows q (sorted_tail key_cmp e.0 (keys_in rows) h))
   where
     by : (b : Bool) → key_eq q e.0 ≡ b → sums_of rows q ≡ unwrap_or (lookup (key_eq q) rows) nothing → (if b then plus e.1 (sums_of rows q) else sums_of rows q) ≡ unwrap_or (cond b (Some e.1) (lookup (key_eq q) rows)) nothing
-    by true same rest = ap (plus e.1) (none_above q e.0 rows same (sorted_head key_cmp e.0 (keys_in rows) h)) ∙ nothing_last e.1
+    by true same rest = ap (plus e.1) (none_above total q e.0 rows same (sorted_head key_cmp e.0 (keys_in rows) h)) ∙ nothing_last e.1
     by false other rest = rest
 
-pub conserve : PurgesConserve
-conserve entries rows purge q =
-    sums_of_rows rows q purge.order ∙ ap (λ (o : Option Counts). unwrap_or o nothing) (purge.sums q ∙ sym (rows_of_entries entries q)) ∙ count_of_entries entries q
+pub conserve : IsTotalOrder key_cmp → PurgesConserve
+conserve total entries rows purge q =
+    sums_of_rows total rows q purge.order ∙ ap (λ (o : Option Counts). unwrap_or o nothing) (purge.sums q ∙ sym (rows_of_entries total entries q)) ∙ count_of_entries total entries q
+
+all_added-append : (rows first next : Rows) → all_added rows (first ++ next) ≡ all_added (all_added rows first) next
+all_added-append rows [] next = refl
+all_added-append rows (e ∷ first) next = all_added-append (added rows e.0 e.1) first next
+
+-- a key has what it had, and what is added to it
+count_added : (total : IsTotalOrder key_cmp) (rows : Rows) (k : List Cell) (c : Counts) (q : List Cell)
+    → count_in (added rows k c) q ≡ (if key_eq q k then plus (count_in rows q) c else count_in rows q)
+count_added total rows k c q = ap (λ (o : Option Counts). unwrap_or o nothing) (row_added total rows k c q) ∙ by (key_eq q k)
+  where
+    by : (b : Bool) → unwrap_or (if b then Some (plus_or (lookup (key_eq q) rows) c) else lookup (key_eq q) rows) nothing ≡ (if b then plus (count_in rows q) c else count_in rows q)
+    by true = plus_or_is (lookup (key_eq q) rows) c
+    by false = refl
+
+pub add_up : IsTotalOrder key_cmp → EntriesAddUp
+add_up total = record {
+  one = λ rows entries entry. all_added_more entries rows entry;
+  joined = all_added-append;
+  counts = count_added total;
+  rows = rows_of_entries total;
+}

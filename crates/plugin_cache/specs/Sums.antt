@@ -1,5 +1,5 @@
 -- Sums by key.
-use Rattle.std.specs.Prelude.{◌≡◌, Bool, List, [], ◌∷◌, Option, Some, None, unwrap_or, if◌then◌else◌, map}
+use Rattle.std.specs.Prelude.{◌≡◌, Bool, List, [], ◌∷◌, ◌++◌, Option, Some, None, unwrap_or, if◌then◌else◌, map}
 use Rattle.std.specs.List.{list_any}
 use Rattle.std.specs.List.Sorted.{IsStrictlySortedBy}
 use Rattle.std.specs.Map.{lookup}
@@ -50,3 +50,11 @@ HaveOnePurge = (entries some other : List (List Cell × Counts)) → IsPurge ent
 -- Nothing is lost or made: over the rows each key has the sums that it has over the entries.
 abbrev pub PurgesConserve : Type 0
 PurgesConserve = (entries rows : List (List Cell × Counts)) → IsPurge entries rows → (key : List Cell) → sums_of rows key ≡ sums_of entries key
+
+-- Entries are added one after another, each to the row of its key alone, and leave the row of each key.
+pub record EntriesAddUp : Type 0 where
+  pub one : (rows entries : List (List Cell × Counts)) (entry : List Cell × Counts) → added (all_added rows entries) entry.0 entry.1 ≡ all_added rows (entries ++ entry ∷ [])
+  pub joined : (rows first next : List (List Cell × Counts)) → all_added rows (first ++ next) ≡ all_added (all_added rows first) next
+  pub counts : (rows : List (List Cell × Counts)) (key : List Cell) (counts : Counts) (other : List Cell)
+      → count_in (added rows key counts) other ≡ (if key_eq other key then plus (count_in rows other) counts else count_in rows other)
+  pub rows : (entries : List (List Cell × Counts)) (key : List Cell) → lookup (key_eq key) (all_added [] entries) ≡ row_of entries key

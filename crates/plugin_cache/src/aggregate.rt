@@ -1,8 +1,8 @@
 ghost use Rattle.std.specs.Prelude.{◌≡◌, [], OnOk, OnErr, IsOk, IfOk, true};
 ghost use Rattle.acct_types.specs.Counts.{CountsFit, plus};
-ghost use Rattle.plugin_cache.specs.Sums.{HaveOnePurge, PurgesConserve};
+ghost use Rattle.plugin_cache.specs.Sums.{EntriesAddUp, HaveOnePurge, PurgesConserve};
 
-use acct_types::{Counts, Key, List, NoMemory};
+use acct_types::{Counts, Key, List, NoMemory, keys_are_ordered};
 use indexmap::IndexMap;
 use std::alloc::Global;
 use std::marker::Model;
@@ -44,6 +44,7 @@ impl Aggregate {
         ensures err { OnErr result (self.new ≡ self.old) }
         ensures there { has_key self.old key ≡ true → IsOk result }
     {
+        keys_are_ordered();
         match self.sums.get_index_of(&key) {
             Some(place) => {
                 self.sums[place] = self.sums[place].plus(counts);
@@ -61,18 +62,30 @@ impl Aggregate {
         ensures order { IfOk result (λ rows. IsStrictlySortedBy key_cmp (keys_in rows)) }
         ensures same { IfOk result (λ rows. (key : _) → lookup (key_eq key) rows ≡ lookup (key_eq key) self) }
     {
+        keys_are_ordered();
         let mut sums = self.sums;
         sums.sort_keys()?;
         Ok(List::from_vec(sums.into_iter().collect(alloc)?))
     }
 }
 
-/// Entries have one list of rows.
+/// A law: entries add up, each to the row of its key.
+pub fn entries_add_up()
+    ensures { EntriesAddUp }
+{
+    keys_are_ordered();
+}
+
+/// A law: entries have one list of rows.
 pub fn one_purge()
     ensures { HaveOnePurge }
-{}
+{
+    keys_are_ordered();
+}
 
-/// Over the rows each key has the sums that it has over the entries.
+/// A law: over the rows each key has the sums that it has over the entries.
 pub fn purges_conserve()
     ensures { PurgesConserve }
-{}
+{
+    keys_are_ordered();
+}

@@ -2,5 +2,7 @@
 #![tactic(auto)]
 
 mod aggregate;
+#[cfg(test)]
+mod tests;
 
-pub use aggregate::{Aggregate, one_purge, purges_conserve};
+pub use aggregate::{Aggregate, entries_add_up, one_purge, purges_conserve};

@@ -1,12 +1,12 @@
 use Rattle.std.proofs.Common.{◌≡◌, ◌+◌, take}
 use Rattle.acct_top.specs.Counting.{IsBounded}
 use Rattle.acct_top.specs.Due.{entries_of}
-use Rattle.acct_top.specs.Sums.{all_added}
+use Rattle.plugin_cache.specs.Sums.{all_added}
 use Rattle.acct_top.proofs.count.add_rows.Given as goal
 
 -- the records so far were added
 abbrev pub invariant-loop-row : goal.invariant-loop-row
 invariant-loop-row l = record {
-  sums : l.sums ≡ all_added l.fn.sums (entries_of (take l.row-index l.rows));
+  sums : l.sums ≡ all_added l.fn.sums (entries_of l.job.now l.moment (take l.row-index l.rows));
   bounded : IsBounded l.sums (l.counted + l.row-index);
 }

@@ -1,10 +1,9 @@
 use Rattle.std.proofs.Common.{◌∙◌, refl, ap}
 use Rattle.std.specs.Map.{lookup}
-use Rattle.acct_top.specs.Csv.{purge_text}
 use Rattle.acct_top.specs.Due.{due}
-use Rattle.acct_top.specs.Key.{key_eq}
+use Rattle.acct_types.specs.Cells.{key_eq}
 use Rattle.acct_top.proofs.CountLemmas.{audit_is, totals_are}
-use Rattle.acct_top.proofs.SumLemmas.{Rows, rows_of_entries}
+use Rattle.acct_top.proofs.CountLemmas.{Rows}
 use Rattle.acct_top.proofs.count.run_texts.Goals as goal
 
 pub returns-clause-output : goal.returns-clause-output
@@ -14,9 +13,9 @@ returns-clause-output c =
       rows = c.in_ok-rows.rows;
       purge = record {
         order = c.in_ok-rows.ensures.order;
-        sums = λ key. c.in_ok-rows.ensures.same key ∙ ap (λ (rows : Rows). lookup (key_eq key) rows) all ∙ rows_of_entries (due c.args.datagrams.now) key;
+        sums = λ key. c.in_ok-rows.ensures.same key ∙ ap (λ (rows : Rows). lookup (key_eq key) rows) all ∙ c.entries_add_up.ensures.rows (due c.args.job.now c.args.datagrams.now) key;
       };
-      is = c.in_ok-output.ensures ∙ ap purge_text c.as_slice.ensures;
+      is = c.in_ok-purge_text.ensures.ok;
     }
 
 pub returns-clause-audit : goal.returns-clause-audit

@@ -17,7 +17,7 @@ returns-clause-reason g c =
     let job = c.args.job.now in
     job_reason c.answer_of.result job _ _ _ _ _ _ c.answer_of.ensures
     (λ failed. rose_within _ _ _ _ (opened.none_fell.reads job.capture) (read.failed failed) (omega (arith, ap (λ (f : List ℕ → ℕ). f job.capture) wrote.reads, ap (λ (f : List ℕ → ℕ). f job.capture) wrote_audit.reads)))
-    (λ failed. rose_within _ _ _ _ (omega (arith, opened.none_fell.writes job.output, ap (λ (f : List ℕ → ℕ). f job.output) read.writes)) (wrote.cause failed) (wrote_audit.writes.later job.output))
+    (λ failed. rose_within _ _ _ _ (omega (arith, opened.none_fell.writes job.plugin.file, ap (λ (f : List ℕ → ℕ). f job.plugin.file) read.writes)) (wrote.cause failed) (wrote_audit.writes.later job.plugin.file))
     (λ failed. rose_within _ _ _ _ (omega (arith, opened.none_fell.writes job.audit, ap (λ (f : List ℕ → ℕ). f job.audit) read.writes, wrote.writes.later job.audit)) (wrote_audit.cause failed) (omega arith))
 
 pub returns-clause-holds : goal.returns-clause-holds
@@ -40,7 +40,7 @@ returns-clause-holds g c = λ told.
     let last = names c.finish-audit.new.place in
     let before = g.P.Place.write_faults c.args.place.now in
     let after = g.P.Place.write_faults c.finish-audit.new.place in
-    job_holds c.answer_of.result job _ _ _ _ _ _ c.answer_of.ensures
+    job_holds c.purges_conserve.ensures c.answer_of.result job _ _ _ _ _ _ c.answer_of.ensures
     (run_facts job _ _ (names c.read_capture.new.place) (names c.finish-output.new.place) c.in-Ok-read_capture.read.failed c.in-Ok-count_capture.counted.whole
     c.in-Ok-read_capture.read.octets c.in-Ok-count_capture.counted.texts c.finish-output.result c.finish-audit.result
     (subst (λ (n : Names). AreBegun job (names c.args.place.now) n) (sym same) begun)
@@ -48,12 +48,12 @@ returns-clause-holds g c = λ told.
     (subst (λ (n : Names). ReadsCapture c.in-Ok-read_capture.read.failed c.in-Ok-read_capture.read.octets (names c.open_all.new.place job.capture) (n job.capture)) (sym taken) (read.read told there)))
     read.bound
     (λ failed. rose_within _ _ _ _ (opened.none_fell.reads job.capture) (read.failed failed) (omega (arith, ap (λ (f : List ℕ → ℕ). f job.capture) wrote.reads, ap (λ (f : List ℕ → ℕ). f job.capture) wrote_audit.reads)))
-    (subst (λ (o : List ℕ). AreTextsOf (flows_of o) c.in-Ok-count_capture.counted.texts) c.as_slice.ensures count.texts)
+    (subst (λ (o : List ℕ). AreTextsOf job (flows_of o) c.in-Ok-count_capture.counted.texts) c.as_slice.ensures count.texts)
     (subst (λ (o : List ℕ). IsTrue c.in-Ok-count_capture.counted.whole ↔ IsWholeCapture o) c.as_slice.ensures count.whole)
-    (subst (λ (text : List ℕ). Finished first between job.output (old_octets first job.output) text c.finish-output.result (Rose (before job.output) (after job.output))) c.as_slice-2.ensures (record {
+    (subst (λ (text : List ℕ). Finished first between job.plugin.file (old_octets first job.plugin.file) text c.finish-output.result (Rose (before job.plugin.file) (after job.plugin.file))) c.as_slice-2.ensures (record {
       ok = λ e. (on_ok _ _ (wrote.ok told held.0) e).here;
       failed = λ e. wrote.failed told held.0 e;
-      cause = λ e. rose_within _ _ _ _ (omega (arith, opened.none_fell.writes job.output, ap (λ (f : List ℕ → ℕ). f job.output) read.writes)) (wrote.cause e) (wrote_audit.writes.later job.output);
+      cause = λ e. rose_within _ _ _ _ (omega (arith, opened.none_fell.writes job.plugin.file, ap (λ (f : List ℕ → ℕ). f job.plugin.file) read.writes)) (wrote.cause e) (wrote_audit.writes.later job.plugin.file);
       others = wrote.others told;
     }))
     (subst (λ (text : List ℕ). Finished between last job.audit [] text c.finish-audit.result (Rose (before job.audit) (after job.audit))) c.as_slice-3.ensures (record {

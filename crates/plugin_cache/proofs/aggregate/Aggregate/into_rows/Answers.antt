@@ -18,9 +18,9 @@ returns-clause-same c k =
     let all : c.from_vec.result ≡ c.into_iter.result = c.from_vec.ensures ∙ IfOk-at_ok _ c.in_ok-collect.was (items_from_collect _ c.collect.ensures.ran (all_rows c.into_iter.result)) in
     let rows : c.from_vec.result ≡ c.sort_keys.new.self.entries = all ∙ c.into_iter.ensures.into_iter_gives.0 in
     ap (λ (rows : Rows). lookup (key_eq k) rows) rows
-    ∙ ap (λ (eq : List Cell → List Cell → Bool). lookup (eq k) c.sort_keys.new.self.entries) (sym same_keys)
+    ∙ ap (λ (eq : List Cell → List Cell → Bool). lookup (eq k) c.sort_keys.new.self.entries) (sym (same_keys c.keys_are_ordered.ensures.equality))
     ∙ c.in_ok-sort_keys.ensures.reordered.2 k
-    ∙ ap (λ (eq : List Cell → List Cell → Bool). lookup (eq k) c.self.inside.sums.entries) same_keys
+    ∙ ap (λ (eq : List Cell → List Cell → Bool). lookup (eq k) c.self.inside.sums.entries) (same_keys c.keys_are_ordered.ensures.equality)
     ∙ ap (λ (rows : Rows). lookup (key_eq k) rows) c.self.view_is
 
 pub returns-clause-order : goal.returns-clause-order
@@ -28,9 +28,9 @@ returns-clause-order c =
     let all : c.from_vec.result ≡ c.into_iter.result = c.from_vec.ensures ∙ IfOk-at_ok _ c.in_ok-collect.was (items_from_collect _ c.collect.ensures.ran (all_rows c.into_iter.result)) in
     let rows : c.from_vec.result ≡ c.sort_keys.new.self.entries = all ∙ c.into_iter.ensures.into_iter_gives.0 in
     let sorted : IsSorted key_cmp (keys_in c.from_vec.result) =
-    subst (λ (R : List Cell → List Cell → Ordering). IsSorted R (keys_in c.from_vec.result)) same_orders
+    subst (λ (R : List Cell → List Cell → Ordering). IsSorted R (keys_in c.from_vec.result)) (same_orders c.keys_are_ordered.ensures.derived)
     (subst (λ (rows : Rows). IsSorted (order.cmp-value).it (keys_in rows)) (sym rows) c.in_ok-sort_keys.ensures.sorted) in
     let apart : IsDistinct key_eq (keys_in c.from_vec.result) =
-    subst (λ (eq : List Cell → List Cell → Bool). IsDistinct eq (keys_in c.from_vec.result)) same_keys
+    subst (λ (eq : List Cell → List Cell → Bool). IsDistinct eq (keys_in c.from_vec.result)) (same_keys c.keys_are_ordered.ensures.equality)
     (subst (λ (rows : Rows). IsDistinct (key.eq-value).it (keys_in rows)) (sym rows) c.in_ok-sort_keys.ensures.unique) in
-    strictly_sorted (keys_in c.from_vec.result) sorted apart
+    strictly_sorted c.keys_are_ordered.ensures.total (keys_in c.from_vec.result) sorted apart

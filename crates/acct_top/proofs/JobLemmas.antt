@@ -1,0 +1,92 @@
+-- The job that a configuration gives.
+use Rattle.std.proofs.Common.{◌≡◌, ◌∙◌, ◌≢◌, ◌∷◌, ◌++◌, [], List, ℕ, Bool, true, false, Option, Some, None, refl, sym, ap, subst}
+use Rattle.std.specs.Prelude.{◌||◌, ◌&&◌, not, Result, Ok, Err, if◌then◌else◌, map}
+use Rattle.std.specs.List.{list_any}
+use Rattle.std.specs.Option.{option_to_list}
+use Rattle.std.specs.Str.{bytes_eq}
+use Rattle.std.proofs.lemmas.Slice.Eq.{bytes_eq-Decides}
+use Rattle.config_keys.specs.Judging.{settings_of}
+use Rattle.config_keys.specs.Lines.{Setting, is_among, lines_of}
+use Rattle.config_keys.specs.Reading.{ConfigSays, PluginSays, completed, config_from, config_of, config_with, judged, lacks_key, plugins_for, shares_name}
+use Rattle.config_keys.specs.Values.{are_apart}
+use Rattle.config_keys.specs.declared.fault.ConfigCause.{ConfigCause}
+use Rattle.config_keys.specs.declared.fault.ConfigCause.TheVariants.{MissingKey, SameName}
+use Rattle.config_keys.specs.declared.fault.ConfigFault.{ConfigFault}
+use Rattle.config_keys.specs.declared.fault.ConfigFault.TheVariants.{At}
+use Rattle.config_keys.specs.ConfigViews.{plugin_says}
+use Rattle.config_keys.specs.declared.plugin.PluginConfig.{PluginConfig}
+use Rattle.config_keys.specs.declared.tool.Tool.{Tool}
+use Rattle.config_keys.specs.declared.tool.Tool.TheVariants.{Nfacctd, Sfacctd, Pmbgpd}
+use Rattle.acct_top.specs.Job.{built_config, built_from, is_nfacctd, is_one_print, is_unbuilt, refusal_of, unless_refused}
+
+-- ---- no two names of an accepted configuration are the same
+
+judged_apart : (config accepted : ConfigSays) → judged config ≡ Ok accepted → shares_name accepted ≡ false
+judged_apart config accepted h = by (lacks_key config.tool config) (shares_name config) refl h
+  where
+    by : (a b : Bool) → shares_name config ≡ b → (if a then Err (At 0 MissingKey) else (if b then Err (At 0 SameName) else Ok config)) ≡ Ok accepted → shares_name accepted ≡ false
+    by true b is h = cc h
+    by false true is h = cc h
+    by false false is h = let same : config ≡ accepted = cc h in subst (λ (c : ConfigSays). shares_name c ≡ false) same is
+
+completed_apart : (tool : Tool) (settings : List Setting) (plugins : Option (List PluginSays)) (accepted : ConfigSays) → completed tool settings plugins ≡ Ok accepted → shares_name accepted ≡ false
+completed_apart tool settings None accepted h = cc h
+completed_apart tool settings (Some plugins) accepted h = judged_apart (config_with tool settings plugins) accepted h
+
+from_apart : (tool : Tool) (settings : Result (List Setting) ConfigFault) (accepted : ConfigSays) → config_from tool settings ≡ Ok accepted → shares_name accepted ≡ false
+from_apart tool (Err fault) accepted h = cc h
+from_apart tool (Ok settings) accepted h = completed_apart tool settings (plugins_for tool settings) accepted h
+
+pub accepted_apart : (tool : Tool) (text : List ℕ) (accepted : ConfigSays) → config_of tool text ≡ Ok accepted → shares_name accepted ≡ false
+accepted_apart tool text accepted h = from_apart tool (settings_of (lines_of text)) accepted h
+
+split : (a b : Bool) → (a || b) ≡ false → (a ≡ false) × (b ≡ false)
+split true b h = cc h
+split false b h = (refl, h)
+
+differ : (xs ys : List ℕ) → bytes_eq xs ys ≡ false → xs ≢ ys
+differ xs ys h same = let e : true ≡ false = sym ((bytes_eq-Decides xs ys).1 same) ∙ h in cc e
+
+one_is_new : (same : Bool) → not (not (same || false) && true) ≡ false → same ≡ false
+one_is_new true h = cc h
+one_is_new false h = refl
+
+-- two outputs and a capture that share no name
+three_apart : (audit file capture : List ℕ) (rest : List (List ℕ)) (captures : Bool)
+    → (not (are_apart (audit ∷ file ∷ [])) || captures || list_any (λ name. is_among (capture ∷ rest) name) (audit ∷ file ∷ [])) ≡ false
+    → (file ≢ capture) × (file ≢ audit) × (capture ≢ audit)
+three_apart audit file capture rest captures h =
+    let outputs = split _ _ h in
+    let inputs = split _ _ (split _ _ outputs.1).1 in
+    let of_audit = split _ _ inputs.0 in
+    let of_file = split _ _ (split _ _ inputs.1).0 in
+    let not_audit = differ audit file (one_is_new _ outputs.0) in
+    (λ same. differ capture file of_file.0 (sym same), λ same. not_audit (sym same), differ capture audit of_audit.0)
+
+-- the names of what is built are three
+pub record AreThree (plugin : PluginSays) (capture audit : List ℕ) : Type 0 where
+  pub output_capture : plugin.file ≢ capture
+  pub output_audit : plugin.file ≢ audit
+  pub capture_audit : capture ≢ audit
+
+tool_apart : (tool : Tool) (config : ConfigSays) (plugin : PluginSays) (capture : List ℕ) → is_nfacctd tool ≡ true → config.tool ≡ tool → config.plugins ≡ plugin ∷ []
+    → config.acct_flow_capture ≡ Some capture → shares_name config ≡ false → AreThree plugin capture config.acct_audit_file
+tool_apart Nfacctd config plugin capture is tool plugins found none =
+    let names = three_apart config.acct_audit_file plugin.file capture _ _ (rw (tool, plugins, found) at none) in
+    record { output_capture = names.0; output_audit = names.1; capture_audit = names.2 }
+tool_apart Sfacctd config plugin capture is tool plugins found none = cc is
+tool_apart Pmbgpd config plugin capture is tool plugins found none = cc is
+
+pub job_apart : (config : ConfigSays) (plugin : PluginSays) (capture : List ℕ) → is_unbuilt config ≡ false → config.plugins ≡ plugin ∷ []
+    → config.acct_flow_capture ≡ Some capture → shares_name config ≡ false → AreThree plugin capture config.acct_audit_file
+job_apart config plugin capture built plugins found none = tool_apart config.tool config plugin capture (yes _ (split _ _ built).0) refl plugins found none
+  where
+    yes : (b : Bool) → not b ≡ false → b ≡ true
+    yes true h = refl
+    yes false h = cc h
+
+-- one print plugin is the only one
+pub only_plugin : (before : List PluginConfig) (last : PluginConfig) → is_one_print (map plugin_says (before ++ last ∷ [])) ≡ true → before ≡ []
+only_plugin [] last h = refl
+only_plugin (plugin ∷ []) last h = cc h
+only_plugin (plugin ∷ next ∷ before) last h = cc h
