@@ -3,6 +3,7 @@
 
 mod addr;
 mod address_text;
+mod choice;
 mod datagram;
 mod flow;
 mod list;
@@ -10,16 +11,19 @@ mod memory;
 pub mod numbers;
 mod order;
 mod prefix;
+mod primitives;
 mod reading;
 #[cfg(test)]
 mod tests;
 
 pub use addr::Addr;
 pub use address_text::AddressText;
+pub use choice::{AsFrom, Layout};
 pub use datagram::Datagram;
 pub use flow::{Counts, FlowRecord, counts_add_up};
 pub use list::{List, Octets, Text};
 pub use memory::NoMemory;
-pub use order::{addresses_are_ordered, prefixes_are_ordered};
+pub use order::{addresses_are_ordered, columns_are_in_order, prefixes_are_ordered};
 pub use prefix::Prefix;
+pub use primitives::{Column, Primitives};
 pub use reading::{read_address, spellings_are_read, texts_are_read};

@@ -1,10 +1,12 @@
-//! Laws of the order of addresses and prefixes.
+//! Laws of the order of addresses, prefixes and columns.
 
 ghost use Rattle.std.specs.Prelude.{◌≡◌, ◌↔◌};
 ghost use Rattle.std.specs.Cmp.{IsTotalOrder};
+ghost use Rattle.acct_types.specs.Columns.{in_order};
 ghost use Rattle.acct_types.specs.Order.{addr_cmp, prefix_cmp};
+ghost use Rattle.acct_types.specs.Primitives.{columns_of};
 
-use crate::{Addr, Prefix};
+use crate::{Addr, Prefix, Primitives};
 use std::cmp::Ordering;
 
 /// A law: addresses are in order, V4 before V6 and then by number.
@@ -19,4 +21,10 @@ pub fn prefixes_are_ordered()
     ensures derived { (p q : _) → ⟦<Prefix as Ord>⟧.cmp p q ≡ prefix_cmp p q }
     ensures total { IsTotalOrder prefix_cmp }
     ensures equal { (p q : _) → (prefix_cmp p q ≡ Ordering.Equal) ↔ (p ≡ q) }
+{}
+
+/// A law: the columns of primitives are in their order, without repeats.
+#[tactic(auto, using(crate::proofs::ColumnLemmas::kept_in_order))]
+pub fn columns_are_in_order()
+    ensures { (p : Primitives) → in_order (columns_of p) ≡ columns_of p }
 {}
