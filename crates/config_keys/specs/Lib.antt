@@ -1,5 +1,10 @@
+pub mod Judging
+pub mod JudgingViews
 pub mod Lines
 pub mod Usage
 pub mod Views
 pub mod Causes
+pub mod Seen
 pub mod Table
+pub mod ValueViews
+pub mod Values
