@@ -1,6 +1,7 @@
 pub mod ColumnLemmas
 pub mod CountLemmas
 pub mod GroupLemmas
+pub mod KeyLemmas
 pub mod OrderLemmas
 pub mod PrefixLemmas
 pub mod ReadLemmas

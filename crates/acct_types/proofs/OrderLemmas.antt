@@ -46,16 +46,17 @@ same_prefixes p q addr len =
     let cleared = is_prop→PathP (λ j. last_bits (len j) (width_of (addr j)) (number_of (addr j)) ≡ 0) (λ j. ℕ_set _ _) p.cleared q.cleared in
     λ i. record { addr = addr i; len = len i; within = within i; cleared = cleared i }
 
+-- addresses that tie are the same
+pub tied_addresses : (a b : Addr) → addr_cmp a b ≡ Equal → a ≡ b
+tied_addresses (V4 a) (V4 b) same = ap V4 (grind (arith, same))
+tied_addresses (V6 a) (V6 b) same = ap V6 (grind (arith, same))
+tied_addresses (V4 a) (V6 b) same = cc same
+tied_addresses (V6 a) (V4 b) same = cc same
+
 -- prefixes that tie are the same
 pub tied_prefixes : (p q : Prefix) → prefix_cmp p q ≡ Equal → p ≡ q
 tied_prefixes p q tied = by (addr_cmp p.addr q.addr) refl tied
   where
-    tied_addresses : (a b : Addr) → addr_cmp a b ≡ Equal → a ≡ b
-    tied_addresses (V4 a) (V4 b) same = ap V4 (grind (arith, same))
-    tied_addresses (V6 a) (V6 b) same = ap V6 (grind (arith, same))
-    tied_addresses (V4 a) (V6 b) same = cc same
-    tied_addresses (V6 a) (V4 b) same = cc same
-
     by : (first : Ordering) → addr_cmp p.addr q.addr ≡ first → ordering_then first (nat_cmp p.len q.len) ≡ Equal → p ≡ q
     by Less is h = cc h
     by Greater is h = cc h

@@ -1,4 +1,5 @@
 pub mod AddrText
+pub mod Cells
 pub mod Columns
 pub mod Counts
 pub mod Cover

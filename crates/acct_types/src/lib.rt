@@ -3,9 +3,12 @@
 
 mod addr;
 mod address_text;
+mod cell;
 mod choice;
 mod datagram;
 mod flow;
+mod item;
+mod key;
 mod list;
 mod memory;
 pub mod numbers;
@@ -18,12 +21,17 @@ mod tests;
 
 pub use addr::Addr;
 pub use address_text::AddressText;
+pub use cell::{Cell, CellRef};
 pub use choice::{AsFrom, Layout};
 pub use datagram::Datagram;
 pub use flow::{Counts, FlowRecord, counts_add_up};
+pub use item::{Item, Purge};
+pub use key::{Cells, Key};
 pub use list::{List, Octets, Text};
 pub use memory::NoMemory;
-pub use order::{addresses_are_ordered, columns_are_in_order, prefixes_are_ordered};
+pub use order::{
+    addresses_are_ordered, columns_are_in_order, keys_are_ordered, prefixes_are_ordered,
+};
 pub use prefix::Prefix;
 pub use primitives::{Column, Primitives};
 pub use reading::{read_address, spellings_are_read, texts_are_read};

@@ -1,12 +1,13 @@
-//! Laws of the order of addresses, prefixes and columns.
+//! Laws of the order of addresses, prefixes, keys and columns.
 
 ghost use Rattle.std.specs.Prelude.{◌≡◌, ◌↔◌};
 ghost use Rattle.std.specs.Cmp.{IsTotalOrder};
+ghost use Rattle.acct_types.specs.Cells.{key_cmp, key_eq};
 ghost use Rattle.acct_types.specs.Columns.{in_order};
 ghost use Rattle.acct_types.specs.Order.{addr_cmp, prefix_cmp};
 ghost use Rattle.acct_types.specs.Primitives.{columns_of};
 
-use crate::{Addr, Prefix, Primitives};
+use crate::{Addr, Key, Prefix, Primitives};
 use std::cmp::Ordering;
 
 /// A law: addresses are in order, V4 before V6 and then by number.
@@ -21,6 +22,14 @@ pub fn prefixes_are_ordered()
     ensures derived { (p q : _) → ⟦<Prefix as Ord>⟧.cmp p q ≡ prefix_cmp p q }
     ensures total { IsTotalOrder prefix_cmp }
     ensures equal { (p q : _) → (prefix_cmp p q ≡ Ordering.Equal) ↔ (p ≡ q) }
+{}
+
+/// A law: keys are in order, cell by cell, and those that tie are the same.
+pub fn keys_are_ordered()
+    ensures derived { (a b : _) → ⟦<Key as Ord>⟧.cmp a b ≡ key_cmp a b }
+    ensures equality { (a b : _) → ⟦<Key as PartialEq>⟧.eq a b ≡ key_eq a b }
+    ensures total { IsTotalOrder key_cmp }
+    ensures equal { (a b : _) → (key_cmp a b ≡ Ordering.Equal) ↔ (a ≡ b) }
 {}
 
 /// A law: the columns of primitives are in their order, without repeats.
