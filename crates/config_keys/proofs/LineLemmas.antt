@@ -1,8 +1,11 @@
 -- Ends of lines.
-use Rattle.std.proofs.Common.{◌≡◌, ◌∙◌, ◌==◌, ◌≢◌, ℕ, List, [], ◌∷◌, ◌++◌, true, false, refl, sym, ap, reverse, length, ◌<◌, arith}
+use Rattle.std.proofs.Common.{◌≡◌, ◌∙◌, ◌==◌, ◌≢◌, ℕ, List, [], ◌∷◌, ◌++◌, true, false, refl, sym, ap, reverse, length, ◌<◌, ◌≤◌, ◌+◌, Bool, arith}
 use Rattle.std.proofs.lemmas.List.{reverse-append, reverse-reverse}
+use Rattle.std.proofs.lemmas.List.Splits.{length-slice_split}
+use Rattle.std.proofs.lemmas.List.Sums.{count_by-le-length}
+use Rattle.std.specs.List.{slice_split}
 use Rattle.std.specs.Prelude.{if◌then◌else◌}
-use Rattle.config_keys.specs.Lines.{Text, after_blanks, before_blanks, is_blank, lines_in, without_return}
+use Rattle.config_keys.specs.Lines.{Text, after_blanks, before_blanks, is_blank, lines_in, lines_of, without_return}
 
 return_at_end : (front : Text) (last : ℕ) → (last == 13) ≡ true → without_return (front ++ last ∷ []) ≡ front
 return_at_end [] last is = rw is refl
@@ -47,3 +50,20 @@ last_line piece (next ∷ pieces) none = absurd (omega (arith, none))
 pub line_before : (piece : Text) (pieces : List Text) → 0 < length pieces → lines_in (piece ∷ pieces) ≡ without_return piece ∷ lines_in pieces
 line_before piece [] some = absurd (omega (arith, some))
 line_before piece (next ∷ pieces) some = refl
+
+-- as many lines as pieces, at most
+no_more_lines : (pieces : List Text) → length (lines_in pieces) ≤ length pieces
+no_more_lines [] = omega arith
+no_more_lines (piece ∷ []) = by (length piece == 0)
+  where
+    by : (b : Bool) → length (if b then [] else piece ∷ []) ≤ 1
+    by true = omega arith
+    by false = omega arith
+no_more_lines (piece ∷ next ∷ pieces) = let less = no_more_lines (next ∷ pieces) in omega (arith, less)
+
+-- a text has few lines
+pub few_lines : (text : Text) → length (lines_of text) ≤ length text + 1
+few_lines text =
+    let less = no_more_lines (slice_split (λ octet. octet == 10) text) in
+    let ends = count_by-le-length (λ octet. octet == 10) text in
+    omega (arith, less, ends, length-slice_split (λ octet. octet == 10) text)

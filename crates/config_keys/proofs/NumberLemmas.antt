@@ -1,7 +1,7 @@
 -- Numbers in texts.
-use Rattle.std.proofs.Common.{◌≡◌, ◌∙◌, ◌==◌, ◌&&◌, ◌||◌, ◌<◌, ◌≤◌, ◌^◌, ℕ, Bool, true, false, not, nat_lt, List, [], ◌∷◌, length, refl, sym, ap, subst, cond, arith, Option, Some, None, ◌≢◌}
+use Rattle.std.proofs.Common.{◌≡◌, ◌∙◌, ◌==◌, ◌&&◌, ◌||◌, ◌<◌, ◌≤◌, ◌^◌, ℕ, Bool, true, false, not, nat_lt, List, [], ◌∷◌, length, refl, sym, ap, subst, cond, arith, Option, Some, None, ◌≢◌, ◌⊎◌, inl, inr}
 use Rattle.std.specs.Prelude.{if◌then◌else◌, nat_le}
-use borrow.Author.Tests.{leb-true, ltb-true, ltb-false}
+use borrow.Author.Tests.{eqb-true, leb-true, ltb-true}
 use Rattle.std.specs.List.{list_all}
 use Rattle.std.specs.Str.Parse.{AllDigits, IsNumeral, digits_value, without_leading_plus}
 use Rattle.std.specs.Str.{IsUtf8}
@@ -9,7 +9,9 @@ use Rattle.std.proofs.lemmas.Fmt.{IsAscii-from_digits}
 use Rattle.std.proofs.lemmas.Str.{IsUtf8-from_ascii}
 use Rattle.std.proofs.lemmas.Str.Parse.{tells_digits, without_leading_plus_none}
 use Rattle.config_keys.specs.Lines.{Text}
-use Rattle.config_keys.specs.Table.{fits}
+use Rattle.config_keys.specs.Ranges.{IsHold, IsWithin}
+use Rattle.config_keys.specs.Table.{fits, from_to, hold_range}
+use Rattle.config_keys.specs.declared.table.Range.{Range}
 use Rattle.config_keys.specs.Values.{is_digit, is_numeral, begins_with_zero}
 
 pub both : (a b : Bool) → (a && b) ≡ true → (a ≡ true) × (b ≡ true)
@@ -54,3 +56,31 @@ too_large text read same h refused = by (nat_lt (digits_value 10 text) (2 ^ 64))
         let parsed = numeral_parses text h (ltb-true (digits_value 10 text) (2 ^ 64) e) in
         absurd (refused (subst (λ (t : Text). (IsNumeral 10 (without_leading_plus t)) × (digits_value 10 (without_leading_plus t) < 2 ^ 64)) (sym same) parsed))
     by false e = refl
+
+either : (a b : Bool) → (a || b) ≡ true → (a ≡ true) ⊎ (b ≡ true)
+either true b h = inl refl
+either false b h = inr h
+
+-- a number in a range is at most its greatest
+pub at_most : (range : Range) (n : ℕ) → fits range n ≡ true → n ≤ range.most
+at_most range n h = elim (either (nat_le range.least n && nat_le n range.most) (range.zero && n == 0) h) [
+  | inl within ↦ leb-true n range.most (both (nat_le range.least n) (nat_le n range.most) within).1
+  | inr zero ↦ let is : n ≡ 0 = eqb-true n 0 (both range.zero (n == 0) zero).1 in omega (arith, is)
+]
+
+-- a number from the least to the most
+pub is_within : (least most n : ℕ) → fits (from_to least most) n ≡ true → IsWithin least most n
+is_within least most n h = elim (either (nat_le least n && nat_le n most) (false && n == 0) h) [
+  | inl within ↦ let ends = both (nat_le least n) (nat_le n most) within in (leb-true least n ends.0, leb-true n most ends.1)
+  | inr zero ↦ cc zero
+]
+
+-- 0, or 3 or more
+pub is_hold : (n : ℕ) → fits hold_range n ≡ true → IsHold n
+is_hold n h = elim (either (nat_le 3 n && nat_le n 65535) (true && n == 0) h) [
+  | inl within ↦
+      let ends = both (nat_le 3 n) (nat_le n 65535) within in
+      let least = leb-true 3 n ends.0 in
+      record { most = leb-true n 65535 ends.1; not_one = λ e. absurd (omega (arith, e, least)); not_two = λ e. absurd (omega (arith, e, least)) }
+  | inr zero ↦ let is : n ≡ 0 = eqb-true n 0 zero in record { most = omega (arith, is); not_one = λ e. absurd (omega (arith, e, is)); not_two = λ e. absurd (omega (arith, e, is)) }
+]
