@@ -1,0 +1,5 @@
+pub mod LineLemmas
+pub mod NumberLemmas
+pub mod PluginLemmas
+pub mod SeenLemmas
+pub mod UsageLemmas

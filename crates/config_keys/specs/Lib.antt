@@ -1,0 +1,13 @@
+pub mod ConfigViews
+pub mod Judging
+pub mod JudgingViews
+pub mod Lines
+pub mod Usage
+pub mod Views
+pub mod Causes
+pub mod Ranges
+pub mod Reading
+pub mod Seen
+pub mod Table
+pub mod ValueViews
+pub mod Values

@@ -1,0 +1,26 @@
+//! The words and the configuration of the programs.
+#![tactic(auto)]
+
+mod build;
+mod config;
+mod fault;
+mod find;
+mod judge;
+mod line;
+mod names;
+mod plugin;
+mod read;
+mod seen;
+mod table;
+mod tool;
+mod value;
+mod words;
+
+pub use config::Config;
+pub use fault::{ConfigCause, ConfigFault};
+pub use names::has_output;
+pub use plugin::PluginConfig;
+pub use read::read_config;
+pub use tool::Tool;
+pub use value::PluginKind;
+pub use words::{UsageFault, Words, read_words};

@@ -1,0 +1,7 @@
+/// One of the programs.
+#[derive(Clone, Copy, Debug, PartialEq, Eq)]
+pub enum Tool {
+    Nfacctd,
+    Sfacctd,
+    Pmbgpd,
+}
