@@ -5,5 +5,6 @@ pub mod KeyLemmas
 pub mod OrderLemmas
 pub mod PrefixLemmas
 pub mod ReadLemmas
+pub mod RouteLemmas
 pub mod SpellLemmas
 pub mod TextLemmas

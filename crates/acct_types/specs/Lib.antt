@@ -7,3 +7,4 @@ pub mod Numbers
 pub mod Order
 pub mod Prefixes
 pub mod Primitives
+pub mod Routes

@@ -16,6 +16,7 @@ mod order;
 mod prefix;
 mod primitives;
 mod reading;
+mod route;
 #[cfg(test)]
 mod tests;
 
@@ -35,3 +36,4 @@ pub use order::{
 pub use prefix::Prefix;
 pub use primitives::{Column, Primitives};
 pub use reading::{read_address, spellings_are_read, texts_are_read};
+pub use route::{Hop, RouteAttrs, RouteRef};

@@ -1,4 +1,6 @@
-use crate::{Addr, Counts, List, NoMemory, Octets, Prefix, Text, numbers, read_address};
+use crate::{
+    Addr, Counts, Hop, List, NoMemory, Octets, Prefix, RouteAttrs, Text, numbers, read_address,
+};
 use std::test::Fail;
 
 #[test]
@@ -275,4 +277,32 @@ fn reads_big_endian(rt: HostRuntime) {
         0x0102_0304_0506_0708_090a_0b0c_0d0e_0f10
     );
     assert_eq!(rt; numbers::after(&octets, 15), [15, 16].as_slice());
+}
+
+#[test]
+fn prints_paths_and_communities(rt: HostRuntime) -> Result<(), Fail> {
+    let mut attrs = RouteAttrs {
+        origin: 0,
+        path: List::new(rt.alloc()),
+        med: None,
+        local_pref: None,
+        communities: List::new(rt.alloc()),
+    };
+    let mut out = Octets::new(rt.alloc());
+    attrs.append_path_text(&mut out)?;
+    attrs.append_communities_text(&mut out)?;
+    assert!(rt; out.is_empty());
+    attrs.path.push(Hop::One(64512))?;
+    let set = List::from_slice(rt.alloc(), &[3, 1, 4_200_000_000])?;
+    attrs.path.push(Hop::Set(set))?;
+    attrs.path.push(Hop::One(0))?;
+    attrs.communities.extend(&[0xfc00_0064, 0xffff_ff01])?;
+    attrs.append_path_text(&mut out)?;
+    out.push(b' ')?;
+    attrs.append_communities_text(&mut out)?;
+    assert_eq!(rt;
+        out.as_slice(),
+        b"64512_{3_1_4200000000}_0 64512:100_65535:65281".as_slice()
+    );
+    Ok(())
 }
