@@ -26,11 +26,7 @@ fn same_name(one: Option<&[u8]>, other: Option<&[u8]>) -> bool
 }
 
 /// The value of a key with a name, or without one.
-pub fn value_in<'a>(
-    entries: &[Entry<'a>],
-    key: &[u8],
-    name: Option<&[u8]>,
-) -> Option<&'a [u8]>
+pub fn value_in<'a>(entries: &[Entry<'a>], key: &[u8], name: Option<&[u8]>) -> Option<&'a [u8]>
     ensures { option_map (λ v. v.now) result ≡ value_in (map setting_of entries.now) key.now (option_map (λ n. n.now) name.entry) }
 {
     for entry in entries {

@@ -46,14 +46,7 @@ struct Primitive {
 }
 
 static LEFT_OUT_KINDS: [&'static [u8]; 8] = [
-    b"sqlite3",
-    b"mysql",
-    b"pgsql",
-    b"kafka",
-    b"amqp",
-    b"tee",
-    b"nfprobe",
-    b"sfprobe",
+    b"sqlite3", b"mysql", b"pgsql", b"kafka", b"amqp", b"tee", b"nfprobe", b"sfprobe",
 ];
 
 static PRIMITIVES: [Primitive; 28] = [
@@ -484,11 +477,7 @@ fn primitives_cause(alloc: Global, value: &[u8]) -> Result<Option<ConfigCause>, 
 }
 
 /// What is wrong with a value of that kind.
-pub fn value_cause(
-    alloc: Global,
-    kind: Kind,
-    value: &[u8],
-) -> Result<Option<ConfigCause>, NoMemory>
+pub fn value_cause(alloc: Global, kind: Kind, value: &[u8]) -> Result<Option<ConfigCause>, NoMemory>
     ensures { IfOk result (λ cause. cause ≡ value_cause kind value.now) }
 {
     match kind {

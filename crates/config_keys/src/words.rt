@@ -84,11 +84,7 @@ fn command<'a>(alloc: Global, tool: Tool) -> Result<Command<'a>, AllocError>
 }
 
 // The values of the options in the words.
-fn read_options<'a>(
-    alloc: Global,
-    tool: Tool,
-    words: &'a [String],
-) -> Result<Given<'a>, UsageFault>
+fn read_options<'a>(alloc: Global, tool: Tool, words: &'a [String]) -> Result<Given<'a>, UsageFault>
     ensures taken { IfOk result (λ g. causes tool (map string_bytes words.entry.now) ≡ []) }
     ensures file { IfOk result (λ g. option_map (λ s. s.now) g.file ≡ file_in tool (map string_bytes words.entry.now)) }
     ensures number { IfOk result (λ g. option_map (λ s. s.now) g.number ≡ number_in tool (map string_bytes words.entry.now)) }
