@@ -1,0 +1,22 @@
+use acct_types::Addr;
+
+/// What the conditions of a rule are asked of. A number that the record lacks is 0, and an address 0.0.0.0.
+#[derive(Clone, Copy, Debug, PartialEq, Eq)]
+pub struct TagFacts {
+    pub exporter: Addr,
+    pub source_id: u32,
+    pub in_iface: u64,
+    pub out_iface: u64,
+    pub src_as: u64,
+    pub dst_as: u64,
+    pub src: Addr,
+    pub dst: Addr,
+}
+
+/// What a record is tagged with: two numbers, 0 where no rule gives one, and the number of the rule that has its label.
+#[derive(Clone, Copy, Debug, PartialEq, Eq)]
+pub struct Tags {
+    pub tag: u64,
+    pub tag2: u64,
+    pub label: Option<u32>,
+}

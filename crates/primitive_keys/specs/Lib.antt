@@ -1,0 +1,4 @@
+pub mod Facts
+pub mod Keys
+pub mod Routing
+pub mod Values
