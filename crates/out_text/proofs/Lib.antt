@@ -1,0 +1,5 @@
+pub mod CsvLemmas
+pub mod JsonLemmas
+pub mod LineLemmas
+pub mod PlainLemmas
+pub mod RowLemmas
