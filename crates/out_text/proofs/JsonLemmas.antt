@@ -1,5 +1,5 @@
 -- Entries are put in their places among members, and the object's text is their line.
-use Rattle.std.proofs.Common.{◌≡◌, ◌≢◌, ◌∙◌, ◌++◌, ◌+◌, ◌<◌, ◌≤◌, ◌∷◌, [], ℕ, List, Bool, Less, Equal, Greater, Ordering, add-one, ap, ap₂, append_assoc, arith, codes, decimal, drop, drop-cons, false, flat_map, get_or, length, map, nat_cmp, refl, suc, sym, true, zero}
+use Rattle.std.proofs.Common.{◌≡◌, ◌≢◌, ◌∙◌, ◌++◌, ◌+◌, ◌-◌, ◌<◌, ◌≤◌, ◌∷◌, [], ℕ, List, Bool, Less, Equal, Greater, Ordering, add-one, ap, ap₂, append_assoc, arith, codes, decimal, drop, drop-cons, false, flat_map, get_or, length, map, nat_cmp, refl, suc, sym, true, zero}
 use Rattle.std.specs.Prelude.{◌&&◌, ◌||◌, ◌^◌, ◌==◌, if◌then◌else◌, nat_lt, not, Option, Some, None}
 use Rattle.std.specs.Cmp.Lexicographic.{slice_cmp}
 use Rattle.std.specs.List.{list_all}
@@ -32,7 +32,7 @@ same_texts [] (y ∷ ys) h = cc h
 same_texts (x ∷ xs) [] h = cc h
 same_texts (x ∷ xs) (y ∷ ys) h =
     let p = both (x == y) (bytes_eq xs ys) h in
-    ap₂ (λ (a : ℕ) (as : List ℕ). a ∷ as) (grind (arith, p.0)) (same_texts xs ys p.1)
+    ap₂ (λ (a : ℕ) (more : List ℕ). a ∷ more) (grind (arith, p.0)) (same_texts xs ys p.1)
 
 pub same_names : (xs ys : List ℕ) → slice_cmp nat_cmp xs ys ≡ Equal → xs ≡ ys
 same_names xs ys h = same_texts xs ys (sym (is_eq-slice_cmp xs ys) ∙ ap is_eq h)
@@ -54,12 +54,23 @@ put_is e (o ∷ os) = put_before (slice_cmp nat_cmp (json_name_of e.0) (json_nam
     put_before Greater is later = ap (member (json_name_of o.0) (data_of o.1)) later
 
 -- the members from one entry more on
-pub members_more : (entries : List Entry) (i : ℕ) (d : Entry) → i < length entries
+members_more : (entries : List Entry) (i : ℕ) (d : Entry) → i < length entries
     → put (json_name_of (get_or entries i d).field) (data_of (shown_cell (get_or entries i d).shown)) (members_in (by_name (entries_of (drop (i + 1) entries))))
     ≡ members_in (by_name (entries_of (drop i entries)))
 members_more entries i d lt =
+    let whole : get_or entries i d ∷ drop (i + 1) entries ≡ drop i entries = rw (add-one i) (sym (drop-cons entries i d lt)) in
     put_is (entry_of (get_or entries i d)) (by_name (entries_of (drop (i + 1) entries)))
-    ∙ ap (λ (es : List Entry). members_in (by_name (entries_of es))) (rw (add-one i) (sym (drop-cons entries i d lt)))
+    ∙ ap (λ (es : List Entry). members_in (by_name (entries_of es))) whole
+
+-- the same, said from the place after the entry
+pub members_before : (entries : List Entry) (place : ℕ) (d : Entry) → 0 < place → place ≤ length entries
+    → put (json_name_of (get_or entries (place - 1) d).field) (data_of (shown_cell (get_or entries (place - 1) d).shown)) (members_in (by_name (entries_of (drop place entries))))
+    ≡ members_in (by_name (entries_of (drop (place - 1) entries)))
+members_before entries place d some within =
+    let before : place ≡ place - 1 + 1 = omega (arith, some) in
+    let here : Entry = get_or entries (place - 1) d in
+    ap (λ (n : ℕ). put (json_name_of here.field) (data_of (shown_cell here.shown)) (members_in (by_name (entries_of (drop n entries))))) before
+    ∙ members_more entries (place - 1) d (omega (arith, some, within))
 
 pub plain_at : (entries : List Entry) (i : ℕ) (d : Entry) → i < length entries → are_plain_entries (entries_of entries) ≡ true
     → is_plain_cell (shown_cell (get_or entries i d).shown) ≡ true
