@@ -1,0 +1,6 @@
+pub mod CsvLemmas
+pub mod JsonLemmas
+pub mod LineLemmas
+pub mod OrderLemmas
+pub mod PlainLemmas
+pub mod RowLemmas
