@@ -3,6 +3,8 @@ pub mod CountLemmas
 pub mod GroupLemmas
 pub mod KeyLemmas
 pub mod OrderLemmas
+pub mod PackedLemmas
+pub mod PackedOrder
 pub mod PrefixLemmas
 pub mod ReadLemmas
 pub mod RouteLemmas

@@ -3,8 +3,10 @@ pub mod Cells
 pub mod Columns
 pub mod Counts
 pub mod Cover
+pub mod KeyLaws
 pub mod Numbers
 pub mod Order
+pub mod Packed
 pub mod Prefixes
 pub mod Primitives
 pub mod Routes

@@ -1,30 +1,37 @@
 ghost use Rattle.std.specs.Prelude.{◌≡◌, ◌∷◌, ◌++◌, ◌<◌, [], length, true, IfOk, IfSome, OnOk, OnErr, MatchOption};
 ghost use Rattle.acct_types.specs.Cells.{are_plain, cell_of, has_plain_words, have_plain_words};
+ghost use Rattle.acct_types.specs.Packed.{IsPacked, cells_in};
+ghost use Rattle.acct_types.specs.declared.addr.Addr.TheVariants.{V4, V6};
 ghost use Rattle.acct_types.specs.declared.cell.Cell.TheVariants as cell;
 
-use crate::{Addr, Cell, CellRef, List, NoMemory, Text};
+use crate::packed::read_first;
+use crate::{Addr, Cell, CellRef, NoMemory};
+use smallvec::SmallVec;
 use std::alloc::Global;
 use std::cmp::Ordering;
 use std::hash::{Hash, Hasher};
 use std::marker::Model;
 
+/// So many octets of a key need no allocation.
+const ROOM: usize = 48;
+
 /// What records are counted apart by, which contracts see as the list of its cells. Words have only characters from 33 to
 /// 126, without comma, quote and backslash. Keys order by their cells, from the first to the last.
 #[derive(Debug, Drop)]
 pub struct Key {
-    cells: List<Cell>,
+    octets: SmallVec<u8, ROOM>,
 }
 
 impl Model for Key {
-    ghost use Rattle.std.specs.Prelude.{List as Sequence, ◌≡◌, true};
+    ghost use Rattle.std.specs.Prelude.{List as Sequence};
     ghost use Rattle.acct_types.specs.declared.cell.Cell.{Cell};
-    ghost use Rattle.acct_types.specs.Cells.{have_plain_words};
+    ghost use Rattle.acct_types.specs.Packed.{IsPacked, cells_in};
 
     ghost Value = { Sequence Cell };
 
-    ghost view = { λ key. key.cells };
+    ghost view = { λ key. cells_in key.octets.items };
 
-    ghost invariant = { λ key. have_plain_words key.cells ≡ true };
+    ghost invariant = { λ key. IsPacked key.octets.items };
 }
 
 impl Key {
@@ -33,7 +40,7 @@ impl Key {
         ensures { result ≡ [] }
     {
         Key {
-            cells: List::new(alloc),
+            octets: SmallVec::new(alloc),
         }
     }
 
@@ -42,7 +49,20 @@ impl Key {
         ensures ok { OnOk result (self.new ≡ self.old ++ cell.Number number ∷ []) }
         ensures err { OnErr result (self.new ≡ self.old) }
     {
-        self.cells.push(Cell::Number(number))
+        if number < 0x100 {
+            return self.append(&[0, number as u8]);
+        }
+        if number < 0x1_0000 {
+            let [a, b] = (number as u16).to_be_bytes();
+            return self.append(&[1, a, b]);
+        }
+        if number < 0x1_0000_0000 {
+            let [a, b, c, d] = (number as u32).to_be_bytes();
+            return self.append(&[2, a, b, c, d]);
+        }
+        let mut octets = [3; 9];
+        octets[1..].copy_from_slice(&number.to_be_bytes());
+        self.append(&octets)
     }
 
     /// Adds an address. After NoMemory the key is unchanged.
@@ -50,7 +70,27 @@ impl Key {
         ensures ok { OnOk result (self.new ≡ self.old ++ cell.Address address ∷ []) }
         ensures err { OnErr result (self.new ≡ self.old) }
     {
-        self.cells.push(Cell::Address(address))
+        match address {
+            Addr::V4(number) => self.push_v4(number),
+            Addr::V6(number) => self.push_v6(number),
+        }
+    }
+
+    fn push_v4(&mut self, number: u32) -> Result<(), NoMemory>
+        ensures ok { OnOk result (self.new ≡ self.old ++ cell.Address (V4 number) ∷ []) }
+        ensures err { OnErr result (self.new ≡ self.old) }
+    {
+        let [a, b, c, d] = number.to_be_bytes();
+        self.append(&[4, a, b, c, d])
+    }
+
+    fn push_v6(&mut self, number: u128) -> Result<(), NoMemory>
+        ensures ok { OnOk result (self.new ≡ self.old ++ cell.Address (V6 number) ∷ []) }
+        ensures err { OnErr result (self.new ≡ self.old) }
+    {
+        let mut octets = [5; 17];
+        octets[1..].copy_from_slice(&number.to_be_bytes());
+        self.append(&octets)
     }
 
     /// Adds a MAC address. After NoMemory the key is unchanged.
@@ -58,7 +98,9 @@ impl Key {
         ensures ok { OnOk result (self.new ≡ self.old ++ cell.Mac mac ∷ []) }
         ensures err { OnErr result (self.new ≡ self.old) }
     {
-        self.cells.push(Cell::Mac(mac))
+        let mut octets = [6; 9];
+        octets[1..].copy_from_slice(&mac.to_be_bytes());
+        self.append(&octets)
     }
 
     /// Adds words. After NoMemory the key is unchanged.
@@ -67,34 +109,30 @@ impl Key {
         ensures ok { OnOk result (self.new ≡ self.old ++ cell.Words words.now ∷ []) }
         ensures err { OnErr result (self.new ≡ self.old) }
     {
-        let words = Text::from_slice(self.cells.allocator(), words)?;
-        self.cells.push(Cell::Words(words))
+        self.octets.reserve(words.len() + 2)?;
+        self.octets.push_reserved(7);
+        self.octets.extend_from_slice(words)?;
+        self.octets.push_reserved(0);
+        Ok(())
     }
 
     /// An equal key.
     pub fn copy(&self) -> Result<Key, NoMemory>
         ensures { IfOk result (λ copy. copy ≡ self.now) }
     {
-        let mut copy = Key::new(self.cells.allocator());
-        let mut cells = self.cells();
-        while let Some(cell) = cells.next() {
-            copy.push(&cell)?;
-        }
-        Ok(copy)
+        Ok(Key {
+            octets: SmallVec::from_slice(*self.octets.allocator(), self.octets.as_slice())?,
+        })
     }
 
-    // Adds a cell.
-    fn push(&mut self, cell: &CellRef<'_>) -> Result<(), NoMemory>
-        requires { has_plain_words (cell_of cell.now) ≡ true }
-        ensures ok { OnOk result (self.new ≡ self.old ++ cell_of cell.now ∷ []) }
+    // Appends packed cells.
+    fn append(&mut self, octets: &[u8]) -> Result<(), NoMemory>
+        requires { IsPacked octets.now }
+        ensures ok { OnOk result (self.new ≡ self.old ++ cells_in octets.now) }
         ensures err { OnErr result (self.new ≡ self.old) }
     {
-        match cell {
-            CellRef::Number(number) => self.push_number(*number),
-            CellRef::Address(address) => self.push_address(*address),
-            CellRef::Mac(mac) => self.push_mac(*mac),
-            CellRef::Words(words) => self.push_words(words),
-        }
+        self.octets.extend_from_slice(octets)?;
+        Ok(())
     }
 
     /// The cells from the first on.
@@ -103,7 +141,7 @@ impl Key {
         ensures plain { have_plain_words self.now ≡ true }
     {
         Cells {
-            rest: self.cells.as_slice(),
+            rest: self.octets.as_slice(),
         }
     }
 }
@@ -111,19 +149,19 @@ impl Key {
 /// Cells that are still to be read, which contracts see as their list.
 #[derive(Drop)]
 pub struct Cells<'a> {
-    rest: &'a [Cell],
+    rest: &'a [u8],
 }
 
 impl<'a> Model for Cells<'a> {
-    ghost use Rattle.std.specs.Prelude.{List as Sequence, ◌≡◌, true};
+    ghost use Rattle.std.specs.Prelude.{List as Sequence};
     ghost use Rattle.acct_types.specs.declared.cell.Cell.{Cell};
-    ghost use Rattle.acct_types.specs.Cells.{have_plain_words};
+    ghost use Rattle.acct_types.specs.Packed.{IsPacked, cells_in};
 
     ghost Value = { Sequence Cell };
 
-    ghost view = { λ cells. cells.rest.now };
+    ghost view = { λ cells. cells_in cells.rest.now };
 
-    ghost invariant = { λ cells. have_plain_words cells.rest.now ≡ true };
+    ghost invariant = { λ cells. IsPacked cells.rest.now };
 }
 
 impl<'a> Cells<'a> {
@@ -134,16 +172,12 @@ impl<'a> Cells<'a> {
         ensures plain { IfSome result (λ first. has_plain_words (cell_of first) ≡ true) }
         ensures fewer { IfSome result (λ _. length self.new < length self.old) }
     {
-        let [first, rest @ ..] = self.rest else {
+        if self.rest.is_empty() {
             return None;
-        };
+        }
+        let (first, rest) = read_first(self.rest);
         self.rest = rest;
-        Some(match first {
-            Cell::Number(number) => CellRef::Number(*number),
-            Cell::Address(address) => CellRef::Address(*address),
-            Cell::Mac(mac) => CellRef::Mac(*mac),
-            Cell::Words(words) => CellRef::Words(words.as_slice()),
-        })
+        Some(first)
     }
 }
 
@@ -156,7 +190,7 @@ impl PartialEq for Key {
     ghost laws = { lists_per cell_laws.laws-law };
 
     fn eq(&self, other: &Key) -> bool {
-        self.cells == other.cells
+        self.octets.as_slice() == other.octets.as_slice()
     }
 }
 
@@ -176,7 +210,7 @@ impl PartialOrd for Key {
     ghost laws = { lists_po cell_laws.laws-law };
 
     fn partial_cmp(&self, other: &Key) -> Option<Ordering> {
-        self.cells.partial_cmp(&other.cells)
+        Some(self.cmp(other))
     }
 }
 
@@ -193,20 +227,20 @@ impl Ord for Key {
     ghost matches_eq = { λ a b. lists_ties ⟦<Cell as Ord>⟧.cmp cell_laws.matches_eq-law a b };
 
     fn cmp(&self, other: &Key) -> Ordering {
-        self.cells.cmp(&other.cells)
+        self.octets.as_slice().cmp(other.octets.as_slice())
     }
 }
 
 impl Hash for Key {
-    ghost use Rattle.std.specs.Hash as fed;
-    ghost use Rattle.std.specs.Hash.{items_Alike};
-    ghost use Rattle.acct_types.specs.contracts.cell.CellHash.TheImpl.Laws as cell_laws;
+    ghost use Rattle.std.specs.Prelude.{[], ◌∷◌};
+    ghost use Rattle.acct_types.specs.Packed.{packed};
+    ghost use Rattle.acct_types.specs.KeyLaws.{same_cells_hash};
 
-    ghost hash_input = { λ cells. fed.slice ⟦<Cell as Hash>⟧.hash_input cells };
+    ghost hash_input = { λ cells. packed cells ∷ [] };
 
-    ghost respects_eq = { (items_Alike (record { fed = cell_laws.respects_eq-law })).fed };
+    ghost respects_eq = { same_cells_hash };
 
     fn hash<H: Hasher>(&self, state: &mut H) {
-        self.cells.hash(state);
+        state.write(self.octets.as_slice());
     }
 }

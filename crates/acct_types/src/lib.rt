@@ -13,6 +13,7 @@ mod list;
 mod memory;
 pub mod numbers;
 mod order;
+mod packed;
 mod prefix;
 mod primitives;
 mod reading;
