@@ -19,7 +19,7 @@ use Rattle.acct_top.specs.declared.audit.Totals.{Totals}
 use Rattle.acct_top.specs.declared.count.Account.{Account}
 use Rattle.acct_top.specs.Account.{CountsAll, CountsOneMore}
 use Rattle.acct_top.specs.Audit.{audit_text, totals_of, event_line, events_text, refusal_of, refusals}
-use Rattle.acct_top.specs.Due.{due, entries_in, entries_of, entry_of, key_in, records_in, records_of}
+use Rattle.acct_top.specs.Due.{due, entries_in, entries_of, entry_of, key_in, records_in, records_of, window_start}
 use Rattle.acct_types.specs.Cells.{key_eq}
 use Rattle.plugin_cache.specs.Sums.{EntriesAddUp, added, all_added, count_in}
 
@@ -29,7 +29,7 @@ Rows = List (List Cell × Counts)
 
 -- the entries up to one more record
 pub record_added : EntriesAddUp → (job : Job) (moment : ℕ) (before now new : Rows) (rows : List RawRecord) (i : ℕ) (d : RawRecord) (key : List Cell) → i < length rows → now ≡ all_added before (entries_of job moment (take i rows))
-    → key ≡ key_in job moment (get_or rows i d).flow → new ≡ added now key (get_or rows i d).flow.counts → new ≡ all_added before (entries_of job moment (take (i + 1) rows))
+    → key ≡ key_in job (window_start job.plugin.refresh moment) (get_or rows i d).flow → new ≡ added now key (get_or rows i d).flow.counts → new ≡ all_added before (entries_of job moment (take (i + 1) rows))
 record_added sums job moment before now new rows i d key lt so_far key_is added_is =
     added_is
     ∙ ap₂ (λ (r : Rows) (k : List Cell). added r k (get_or rows i d).flow.counts) so_far key_is

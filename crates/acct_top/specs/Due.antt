@@ -6,19 +6,24 @@ use Rattle.acct_types.specs.declared.flow.Counts.{Counts}
 use Rattle.acct_types.specs.declared.flow.FlowRecord.{FlowRecord}
 use Rattle.netflow_in.specs.declared.decoded.RawRecord.{RawRecord}
 use Rattle.netflow_in.specs.Version5.{decoded_v5}
-use Rattle.primitive_keys.specs.KeyCells.{key_cells_of}
+use Rattle.pretag_map.specs.declared.facts.Tags.{Tags}
+use Rattle.primitive_keys.specs.Keys.{key_cells_of}
 use Rattle.acct_top.specs.declared.job.Job.{Job}
 
 -- the first moment of the window that a moment lies in: windows follow each other from moment 0 on, each of so many seconds
 abbrev pub window_start : ℕ → ℕ → ℕ
 window_start seconds moment = moment / (1000 * seconds) * (1000 * seconds)
 
--- what a record is counted under; there are no routes, tags and labels so far
+-- no tags and no label
+abbrev pub no_tags : Tags
+no_tags = record { tag = 0; tag2 = 0; label = None }
+
+-- what a record is counted under in a window that begins at this moment; there are no routes, tags and labels so far
 abbrev pub key_in : Job → ℕ → FlowRecord → List Cell
-key_in job moment flow = key_cells_of job.plugin.primitives flow job.as_from None None no_tags None (window_start job.plugin.refresh moment)
+key_in job window flow = key_cells_of job.plugin.primitives flow job.as_from None None no_tags None window
 
 abbrev pub entry_of : Job → ℕ → RawRecord → List Cell × Counts
-entry_of job moment row = (key_in job moment row.flow, row.flow.counts)
+entry_of job moment row = (key_in job (window_start job.plugin.refresh moment) row.flow, row.flow.counts)
 
 abbrev pub entries_of : Job → ℕ → List RawRecord → List (List Cell × Counts)
 entries_of job moment rows = map (entry_of job moment) rows

@@ -2,7 +2,7 @@
 use Rattle.std.specs.Prelude.{◌≡◌, ℕ, List}
 use Rattle.acct_types.specs.declared.cell.Cell.{Cell}
 use Rattle.acct_types.specs.declared.flow.Counts.{Counts}
-use Rattle.out_text.specs.PurgeText.{purge_text}
+use Rattle.out_text.specs.Purges.{purge_text}
 use Rattle.plugin_cache.specs.Sums.{IsPurge}
 use Rattle.acct_top.specs.declared.job.Job.{Job}
 

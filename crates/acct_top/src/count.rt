@@ -34,7 +34,7 @@ fn window_start(job: &Job, moment: u64) -> u64
 
 // What a record is counted under.
 fn key_in(alloc: Global, job: &Job, window: u64, flow: &FlowRecord) -> Result<Key, NoMemory>
-    ensures { IfOk result (λ key. (moment : ℕ) → window ≡ window_start job.now.plugin.refresh moment → key ≡ key_in job.now moment flow.now) }
+    ensures { IfOk result (λ key. key ≡ key_in job.now window flow.now) }
 {
     let tags = Tags {
         tag: 0,
@@ -171,6 +171,7 @@ pub fn run_texts(alloc: Global, job: &Job, datagrams: &[Datagram]) -> Result<Tex
     let purge = Purge { window: 0, rows };
     let mut output = Octets::new(alloc);
     purge_text(
+        alloc,
         &job.plugin.primitives,
         job.plugin.layout,
         &purge,

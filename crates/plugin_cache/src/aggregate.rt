@@ -45,16 +45,12 @@ impl Aggregate {
         ensures there { has_key self.old key ≡ true → IsOk result }
     {
         keys_are_ordered();
-        match self.sums.get_index_of(&key) {
-            Some(place) => {
-                self.sums[place] = self.sums[place].plus(counts);
-                Ok(())
-            }
-            None => {
-                self.sums.insert(key, counts)?;
-                Ok(())
-            }
-        }
+        let Some(place) = self.sums.get_index_of(&key) else {
+            self.sums.insert(key, counts)?;
+            return Ok(());
+        };
+        self.sums[place] = self.sums[place].plus(counts);
+        Ok(())
     }
 
     /// The rows in the order of their keys.

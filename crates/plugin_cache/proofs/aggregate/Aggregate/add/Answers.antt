@@ -18,8 +18,8 @@ plus-requires c =
     ap₂ (λ (eq : List Cell → List Cell → Bool) (rows : Rows). lookup (eq c.args.key) rows) (sym (same_keys c.keys_are_ordered.ensures.equality)) (sym c.self.view_is) ∙ sym c.in-Some.ensures.value ∙ c.index.ensures in
     rw found at c.requires
 
-pub returns-in-Some-clause-ok : goal.returns-in-Some-clause-ok
-returns-in-Some-clause-ok c =
+pub returns-clause-ok : goal.returns-clause-ok
+returns-clause-ok c =
     let k = c.args.key in
     let rows = c.self.inside.sums.entries in
     let eq = (key.eq-value).it in
@@ -28,18 +28,18 @@ returns-in-Some-clause-ok c =
     ∙ ap₂ (λ (e : List Cell → List Cell → Bool) (v : Counts). insert_entry e rows k v) (same_keys c.keys_are_ordered.ensures.equality) (c.plus.ensures ∙ ap (λ (o : Option Counts). plus_or o c.args.counts) (sym found))
     ∙ sym (added_is rows k c.args.counts) ∙ ap (λ (rows : Rows). added rows k c.args.counts) c.self.view_is
 
-pub returns-in_ok-insert-in-None-clause-ok : goal.returns-in_ok-insert-in-None-clause-ok
-returns-in_ok-insert-in-None-clause-ok c =
+pub returns-in_default-clause-ok : goal.returns-in_default-clause-ok
+returns-in_default-clause-ok c =
     let k = c.args.key in
     let rows = c.self.inside.sums.entries in
-    let none : lookup (key_eq k) rows ≡ None = ap (λ (e : List Cell → List Cell → Bool). lookup (e k) rows) (sym (same_keys c.keys_are_ordered.ensures.equality)) ∙ none_of _ c.in-None.ensures.found in
-    c.in_ok-insert-in-None.ensures.entries
+    let none : lookup (key_eq k) rows ≡ None = ap (λ (e : List Cell → List Cell → Bool). lookup (e k) rows) (sym (same_keys c.keys_are_ordered.ensures.equality)) ∙ none_of _ c.in_default.ensures.found in
+    c.in_ok-insert.ensures.entries
     ∙ ap₂ (λ (e : List Cell → List Cell → Bool) (o : Option Counts). insert_entry e rows k (plus_or o c.args.counts)) (same_keys c.keys_are_ordered.ensures.equality) (sym none)
     ∙ sym (added_is rows k c.args.counts) ∙ ap (λ (rows : Rows). added rows k c.args.counts) c.self.view_is
 
-pub returns-in_err-insert-in-None-clause-there : goal.returns-in_err-insert-in-None-clause-there
-returns-in_err-insert-in-None-clause-there c there =
+pub returns-in_err-insert-clause-there : goal.returns-in_err-insert-clause-there
+returns-in_err-insert-clause-there c there =
     let k = c.args.key in
     let none : lookup (key_eq k) c.args.self.now ≡ None =
-    ap₂ (λ (eq : List Cell → List Cell → Bool) (rows : Rows). lookup (eq k) rows) (sym (same_keys c.keys_are_ordered.ensures.equality)) (sym c.self.view_is) ∙ none_of _ c.in-None.ensures.found in
+    ap₂ (λ (eq : List Cell → List Cell → Bool) (rows : Rows). lookup (eq k) rows) (sym (same_keys c.keys_are_ordered.ensures.equality)) (sym c.self.view_is) ∙ none_of _ c.in_default.ensures.found in
     absurd (cc (there, no_key c.args.self.now k none))
