@@ -1,11 +1,11 @@
 -- Plain texts are written with commas between them.
-use Rattle.std.proofs.Common.{◌≡◌, ◌==◌, ◌∙◌, ◌++◌, ◌+◌, ◌<◌, ◌≤◌, ◌∷◌, [], ℕ, List, Bool, ap, append_assoc, arith, codes, false, flat_map, get_or, length, map, refl, sym, take, true}
-use Rattle.std.specs.Prelude.{◌&&◌, ◌||◌, not}
+use Rattle.std.proofs.Common.{◌≡◌, ◌==◌, ◌∙◌, ◌++◌, ◌+◌, ◌<◌, ◌≤◌, ◌∷◌, [], ℕ, List, Bool, ap, arith, codes, false, flat_map, get_or, length, map, refl, sym, take, true}
+use Rattle.std.specs.Prelude.{◌&&◌, not}
 use Rattle.std.proofs.lemmas.Bool.{ne_eqb}
 use Rattle.std.proofs.lemmas.Bool.Decides.{nat_tests}
-use Rattle.std.proofs.lemmas.List.{append-nil, get_or-map, length-map, take-map}
+use Rattle.std.proofs.lemmas.List.{get_or-map, length-map, take-map}
 use Rattle.std.specs.List.{list_all}
-use Rattle.csv.specs.Writing.{blank_text, default_writer, field_text, fields_text, needs_byte, needs_quotes, next_sep, row_body, tail_text, with_flexible}
+use Rattle.csv.specs.Writing.{default_writer, field_text, fields_text, needs_byte, needs_quotes, next_sep, row_body, tail_text, with_flexible}
 use Rattle.csv.specs.declared.writer.WriterBuilder.{WriterBuilder}
 use Rattle.csv.proofs.WriteFacts.{row-step}
 use Rattle.acct_types.specs.Cells.{are_plain, is_plain}

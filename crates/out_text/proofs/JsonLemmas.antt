@@ -1,15 +1,14 @@
 -- Entries are put in their places among members, and the object's text is their line.
-use Rattle.std.proofs.Common.{◌≡◌, ◌≢◌, ◌∙◌, ◌++◌, ◌+◌, ◌-◌, ◌<◌, ◌≤◌, ◌∷◌, [], ℕ, List, Bool, Less, Equal, Greater, Ordering, add-one, ap, ap₂, append_assoc, arith, codes, decimal, drop, drop-cons, false, flat_map, get_or, length, map, nat_cmp, refl, suc, sym, true, zero}
-use Rattle.std.specs.Prelude.{◌&&◌, ◌||◌, ◌^◌, ◌==◌, if◌then◌else◌, nat_lt, not, Option, Some, None}
+use Rattle.std.proofs.Common.{◌≡◌, ◌∙◌, ◌++◌, ◌+◌, ◌-◌, ◌<◌, ◌≤◌, ◌∷◌, [], ℕ, List, Bool, Less, Equal, Greater, Ordering, add-one, ap, ap₂, append_assoc, arith, codes, decimal, drop, drop-cons, false, flat_map, get_or, length, map, nat_cmp, refl, suc, sym, true, zero}
+use Rattle.std.specs.Prelude.{◌^◌, ◌==◌, if◌then◌else◌, nat_lt, Option, Some, None}
 use Rattle.std.specs.Cmp.Lexicographic.{slice_cmp}
-use Rattle.std.specs.List.{list_all}
 use Rattle.std.specs.Ordering.{is_eq, match_ordering}
 use Rattle.std.specs.Str.{bytes_eq}
 use Rattle.std.proofs.lemmas.Bool.{ne_eqb}
 use Rattle.std.proofs.lemmas.Bool.Decides.{nat_tests}
 use Rattle.std.proofs.lemmas.Map.Text.{is_eq-slice_cmp}
 use Rattle.json.specs.Print.{escape, escape_byte, quoted}
-use Rattle.serde_json.specs.Data.{Data, Members, member, no_members, number, object, put, string, unsigned}
+use Rattle.serde_json.specs.Data.{member, object, put}
 use Rattle.serde_json.specs.Written.{compact_text, has_float, members_have_float, members_text}
 use Rattle.acct_types.specs.Cells.{are_plain, is_plain}
 use Rattle.acct_types.specs.declared.cell.Cell.{Cell}

@@ -1,8 +1,7 @@
 -- Texts with a separator between them.
-use Rattle.std.proofs.Common.{◌≡◌, ◌∙◌, ◌++◌, ◌∷◌, [], ℕ, List, ap, arith, codes, drop, drop-cons, flat_map, get_or, length, map, refl, sym, take, suc}
+use Rattle.std.proofs.Common.{◌≡◌, ◌∙◌, ◌++◌, ℕ, List, ap, arith, codes, drop, drop-cons, flat_map, get_or, length, map, sym, take}
 use Rattle.std.proofs.lemmas.List.{take_all}
-use Rattle.std.specs.Int.{w64, to_be_bytes}
-use Rattle.out_text.specs.Lines.{hex_pair, joined, mac_text}
+use Rattle.out_text.specs.Lines.{hex_pair, joined}
 
 -- the low six octets of eight
 pub pairs_joined : (octets : List ℕ) → length octets ≡ 8 →

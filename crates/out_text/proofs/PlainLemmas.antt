@@ -1,6 +1,6 @@
 -- The text of each cell is plain.
-use Rattle.std.proofs.Common.{◌≡◌, ◌∙◌, ◌++◌, ◌∷◌, ◌+◌, ◌*◌, ◌<◌, ◌≤◌, ◌/◌, ◌%◌, [], ℕ, List, Bool, true, false, refl, sym, ap, arith, codes, decimal, drop, flat_map, map, suc, take, zero}
-use Rattle.std.specs.Prelude.{◌&&◌, cond, if◌then◌else◌, nat_lt, nat_eq, length, IsAscii, IsUtf8}
+use Rattle.std.proofs.Common.{◌≡◌, ◌++◌, ◌∷◌, ◌+◌, ◌*◌, ◌<◌, ◌/◌, ◌%◌, [], ℕ, List, Bool, true, false, refl, arith, codes, decimal, drop, flat_map, map, suc, take, zero}
+use Rattle.std.specs.Prelude.{◌&&◌, if◌then◌else◌, nat_lt, nat_eq, IsAscii, IsUtf8}
 use Rattle.std.specs.Char.{digit_char}
 use Rattle.std.specs.Fmt.{digit_glyph, digits, digits_onto}
 use Rattle.std.specs.Int.{byte_at, bytes_high_first, to_be_bytes, w64, w128}
@@ -12,7 +12,7 @@ use Rattle.std.proofs.lemmas.List.Folds.{list_all-append}
 use Rattle.std.proofs.lemmas.Str.{IsUtf8-from_ascii}
 use Rattle.std.proofs.lemmas.Str.Ascii.{IsAscii-nil}
 use Rattle.acct_types.specs.Cells.{are_plain, has_plain_words, is_plain}
-use Rattle.acct_types.specs.AddrText.{address_text, groups_in, octets_in}
+use Rattle.acct_types.specs.AddrText.{address_text, groups_in}
 use Rattle.acct_types.specs.declared.addr.Addr.{Addr}
 use Rattle.acct_types.specs.declared.addr.Addr.TheVariants.{V4, V6}
 use Rattle.acct_types.specs.declared.cell.Cell.{Cell}

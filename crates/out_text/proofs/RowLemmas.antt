@@ -1,7 +1,5 @@
 -- The entries of a row and of the header are plain, and two or more.
-use Rattle.std.proofs.Common.{◌≡◌, ◌∙◌, ◌++◌, ◌+◌, ◌≤◌, ◌∷◌, [], ℕ, List, Bool, ap, arith, drop, false, get_or, length, map, refl, subst, sym, true}
-use Rattle.std.specs.Prelude.{if◌then◌else◌}
-use Rattle.std.specs.List.{list_all}
+use Rattle.std.proofs.Common.{◌≡◌, ◌≤◌, ◌∷◌, [], List, Bool, arith, drop, false, length, map, refl, true}
 use Rattle.std.proofs.lemmas.List.{length-append, map-append}
 use Rattle.std.proofs.lemmas.List.Folds.{list_all-append}
 use Rattle.acct_types.specs.Cells.{are_plain, has_plain_words, have_plain_words}
@@ -14,7 +12,7 @@ use Rattle.acct_types.specs.declared.primitives.Column.TheVariants.{Tag, Tag2, L
 use Rattle.acct_types.specs.declared.primitives.Primitives.{Primitives}
 use Rattle.out_text.specs.declared.field.Field.{Field}
 use Rattle.out_text.specs.declared.field.Field.TheVariants as field
-use Rattle.out_text.specs.Headings.{json_name_of, name_of, titles_of}
+use Rattle.out_text.specs.Headings.{name_of, titles_of}
 use Rattle.out_text.specs.Lines.{cell_text}
 use Rattle.out_text.specs.Plain.{are_plain_entries, is_plain_cell}
 use Rattle.out_text.specs.Rows.{count_entries, count_fields, fields_of, first_cell, header_entries, name_entry, row_entries, under_columns}

@@ -1,5 +1,5 @@
 -- Entries whose text JSON and csv show as it is.
-use Rattle.std.specs.Prelude.{ℕ, ◌^◌, ◌<◌, Bool, true, nat_lt, List}
+use Rattle.std.specs.Prelude.{Bool, List}
 use Rattle.std.specs.List.{list_all}
 use Rattle.acct_types.specs.Cells.{are_plain}
 use Rattle.acct_types.specs.declared.cell.Cell.{Cell}

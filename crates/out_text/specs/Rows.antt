@@ -1,8 +1,7 @@
 -- The fields of a row, and those of the header.
-use Rattle.std.specs.Prelude.{ℕ, List, [], ◌∷◌, ◌++◌, Bool, drop, map, if◌then◌else◌}
+use Rattle.std.specs.Prelude.{List, [], ◌∷◌, ◌++◌, Bool, drop, map, if◌then◌else◌}
 use Rattle.acct_types.specs.declared.cell.Cell.{Cell}
 use Rattle.acct_types.specs.declared.cell.Cell.TheVariants as cell
-use Rattle.acct_types.specs.declared.cell.CellRef.{CellRef}
 use Rattle.acct_types.specs.declared.flow.Counts.{Counts}
 use Rattle.acct_types.specs.declared.primitives.Column.{Column}
 use Rattle.acct_types.specs.declared.primitives.Primitives.{Primitives}

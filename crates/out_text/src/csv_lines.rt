@@ -16,11 +16,7 @@ use std::alloc::Global;
 use std::io::Write;
 
 /// A header line, and a line for each row.
-pub fn csv_table(
-    alloc: Global,
-    p: &Primitives,
-    rows: &[(Key, Counts)],
-) -> Result<Octets, NoMemory>
+pub fn csv_table(alloc: Global, p: &Primitives, rows: &[(Key, Counts)]) -> Result<Octets, NoMemory>
     ensures { IfOk result (λ text. text ≡ csv_line (header_entries p.now) ++ row_lines csv_line p.now rows.now) }
 {
     let mut writer = WriterBuilder::new()

@@ -67,7 +67,11 @@ fn append_padded(entry: &Entry<'_>, out: &mut Octets) -> Result<(), NoMemory>
 {
     let start = out.len();
     append_text(&entry.shown, out)?;
-    let room = entry.field.heading().width.saturating_sub(out.len() - start);
+    let room = entry
+        .field
+        .heading()
+        .width
+        .saturating_sub(out.len() - start);
     append_spaces(room, out)
 }
 

@@ -1,4 +1,4 @@
-use Rattle.std.proofs.Common.{◌≡◌, ◌∙◌, ◌≤◌, ap, length, map, subst, sym, true, ℕ, List}
+use Rattle.std.proofs.Common.{◌∙◌, ◌≤◌, ap, length, subst, sym, ℕ}
 use Rattle.std.proofs.lemmas.List.{length-map}
 use Rattle.out_text.specs.Plain.{are_plain_entries}
 use Rattle.out_text.specs.Rows.{entries_of, entry_of}

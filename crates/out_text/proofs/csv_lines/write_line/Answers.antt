@@ -1,5 +1,5 @@
-use Rattle.std.proofs.Common.{rules, ◌≡◌, ◌≢◌, ◌∙◌, ◌+◌, ◌-◌, ◌^◌, ◌≤◌, arith, length, map, sym, subst, take, ℕ}
-use Rattle.std.proofs.lemmas.List.{length-map, take_all}
+use Rattle.std.proofs.Common.{rules, ◌≡◌, ◌≢◌, ◌∙◌, ◌+◌, ◌-◌, ◌^◌, ◌≤◌, arith, length, take}
+use Rattle.std.proofs.lemmas.List.{take_all}
 use Rattle.csv.specs.declared.writer.QuoteStyle.TheVariants as style
 use Rattle.csv.proofs.WriteFacts.{appends-more}
 use Rattle.acct_types.specs.declared.cell.CellRef.TheVariants as read
@@ -7,7 +7,7 @@ use Rattle.acct_types.specs.declared.primitives.Column.TheVariants as column
 use Rattle.out_text.specs.declared.field.Field.TheVariants as field
 use Rattle.out_text.specs.declared.row.Entry.{Entry}
 use Rattle.out_text.specs.declared.row.Shown.TheVariants as shown
-use Rattle.out_text.proofs.CsvLemmas.{after_nothing, csv_line_is, field_more, row_setup}
+use Rattle.out_text.proofs.CsvLemmas.{after_nothing, csv_line_is, field_more}
 use Rattle.out_text.proofs.csv_lines.write_line.Goals as goal
 use Rattle.out_text.proofs.csv_lines.write_line.Goals.{in-Ok-end_record, in-Err}
 

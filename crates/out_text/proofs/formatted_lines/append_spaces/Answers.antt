@@ -1,4 +1,4 @@
-use Rattle.std.proofs.Common.{rules, ◌≡◌, ◌++◌, ap, ◌∙◌, List, ℕ}
+use Rattle.std.proofs.Common.{◌++◌, ap, ◌∙◌, List, ℕ}
 use Rattle.std.proofs.lemmas.List.{take-replicate}
 use Rattle.std.proofs.lemmas.Result.{on_ok_weaker}
 use Rattle.out_text.proofs.formatted_lines.append_spaces.Goals as goal

@@ -1,8 +1,8 @@
-use Rattle.std.proofs.Common.{◌≡◌, ◌∙◌, ◌++◌, ◌∷◌, [], ℕ, List, ap, append_assoc, false}
+use Rattle.std.proofs.Common.{◌∙◌, ◌++◌, ◌∷◌, [], ℕ, List, ap, append_assoc}
 use Rattle.std.proofs.lemmas.Result.{on_ok_weaker}
 use Rattle.serde_json.specs.Data.{object}
 use Rattle.serde_json.proofs.Views.{view-Object}
-use Rattle.out_text.specs.Objects.{by_name, json_line}
+use Rattle.out_text.specs.Objects.{by_name}
 use Rattle.out_text.specs.Rows.{entries_of}
 use Rattle.out_text.proofs.JsonLemmas.{json_line_is, no_float}
 use Rattle.out_text.proofs.json_lines.append_object.Goals as goal

@@ -1,4 +1,4 @@
-use Rattle.std.proofs.Common.{◌≡◌, ◌∙◌, ap, true}
+use Rattle.std.proofs.Common.{◌∙◌, ap}
 use Rattle.out_text.specs.Plain.{are_plain_entries}
 use Rattle.out_text.specs.Rows.{entries_of}
 use Rattle.out_text.proofs.RowLemmas.{plain_row}

@@ -1,5 +1,4 @@
-use Rattle.std.proofs.Common.{rules, ◌≡◌, ◌∙◌, true, ap, sym}
-use Rattle.acct_types.specs.Cells.{are_plain}
+use Rattle.std.proofs.Common.{◌∙◌}
 use Rattle.out_text.proofs.PlainLemmas.{plain_utf8}
 use Rattle.out_text.proofs.json_lines.value_of.Goals as goal
 
