@@ -1,5 +1,5 @@
 -- What holds after each answer, and why it comes.
-use Rattle.std.specs.Prelude.{◌≡◌, ◌≢◌, ◌⊎◌, ◌≤◌, ◌<◌, ⊤, ℕ, true, List, [], ◌∷◌, ◌++◌, length, Some, Err, codes}
+use Rattle.std.specs.Prelude.{◌≡◌, ◌≢◌, ◌⊎◌, ◌≤◌, ◌<◌, ⊤, ℕ, true, List, [], ◌∷◌, ◌++◌, length, Some, Ok, Err}
 use Rattle.outside_io.specs.Causes.{Rose}
 use Rattle.outside_io.specs.Names.{Names, Puts, old_octets}
 use Rattle.acct_top.specs.declared.answer.AnyCause.{AnyCause}
@@ -15,11 +15,11 @@ use Rattle.config_keys.specs.ConfigViews.{plugin_says}
 use Rattle.config_keys.specs.Usage.{IsAnswer}
 use Rattle.config_keys.specs.declared.fault.ConfigFault.TheVariants.{At}
 use Rattle.config_keys.specs.declared.tool.Tool.{Tool}
-use Rattle.config_keys.specs.declared.words.Words.TheVariants as words
+use Rattle.config_keys.specs.declared.words.Words.TheVariants as asked
 
 -- the words name this file
 abbrev pub NamesFile : Tool → List (List ℕ) → List ℕ → Type 0
-NamesFile tool words file = IsAnswer tool words (Ok (words.Config file))
+NamesFile tool words file = IsAnswer tool words (Ok (asked.Config file))
 
 -- the most octets of a configuration
 abbrev pub MOST_CONFIG : ℕ

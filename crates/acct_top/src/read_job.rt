@@ -64,17 +64,20 @@ pub fn job_of(file: &Text, config: Config) -> Result<Job, ConfigCause>
     if has_output(&config, file.as_slice()) {
         return Err(ConfigCause::SameName);
     }
+    let as_from = config.nfacctd_as;
     let mut plugins = config.plugins;
+    let capture = config.acct_flow_capture;
+    let audit = config.acct_audit_file;
+    let Some(capture) = capture else {
+        return Err(ConfigCause::MissingKey);
+    };
     let plugin = plugins.pop().unwrap();
-    match config.acct_flow_capture {
-        None => Err(ConfigCause::MissingKey),
-        Some(capture) => Ok(Job {
-            plugin,
-            as_from: config.nfacctd_as,
-            capture,
-            audit: config.acct_audit_file,
-        }),
-    }
+    Ok(Job {
+        plugin,
+        as_from,
+        capture,
+        audit,
+    })
 }
 
 /// Why a file gives no job.

@@ -7,6 +7,6 @@ use Rattle.acct_top.proofs.count.add_rows.Given as goal
 -- the records so far were added
 abbrev pub invariant-loop-row : goal.invariant-loop-row
 invariant-loop-row l = record {
-  sums : l.sums ≡ all_added l.fn.sums (entries_of l.job.now l.moment (take l.row-index l.rows));
+  sums : l.sums ≡ all_added l.fn.sums (entries_of l.job l.moment (take l.row-index l.rows));
   bounded : IsBounded l.sums (l.counted + l.row-index);
 }
