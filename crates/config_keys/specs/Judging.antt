@@ -1,6 +1,6 @@
 -- What is wrong with the lines of a configuration.
-use Rattle.std.specs.Prelude.{ℕ, ◌+◌, ◌&&◌, ◌||◌, Bool, true, false, not, List, [], ◌∷◌, ◌++◌, map, find, Option, Some, None, is_some, Result, Ok, Err, if◌then◌else◌, codes}
-use Rattle.std.specs.List.{list_any}
+use Rattle.std.specs.Prelude.{◌≡◌, ℕ, ◌+◌, ◌&&◌, ◌||◌, Bool, true, false, not, List, [], ◌∷◌, ◌++◌, map, find, Option, Some, None, is_none, is_some, Result, Ok, Err, if◌then◌else◌, codes}
+use Rattle.std.specs.List.{list_all, list_any}
 use Rattle.std.specs.Str.{bytes_eq}
 use Rattle.config_keys.specs.Lines.{Text, Setting, Statement, Nothing, NoColon, NoLabel, Says, is_among, is_text, statement_of}
 use Rattle.config_keys.specs.Table.{KeyRow, row_of}
@@ -111,3 +111,17 @@ settings_from plugins number before (line ∷ lines) =
 -- the settings of a configuration, or the least line with a cause
 abbrev pub settings_of : List Text → Result (List Setting) ConfigFault
 settings_of lines = settings_from (plugins_named lines) 1 [] lines
+
+-- ---- what is known of settings
+
+-- whether the value is one that its key takes
+abbrev pub value_fits : Option KeyRow → Text → Bool
+value_fits None value = false
+value_fits (Some row) value = is_none (value_cause row.kind value)
+
+abbrev pub all_fit : List Setting → Bool
+all_fit settings = list_all (λ s. value_fits (row_of s.key) s.value) settings
+
+-- the settings of lines without a cause have values that their keys take
+abbrev pub FitTheirKeys : Type 0
+FitTheirKeys = (lines : List Text) (settings : List Setting) → settings_of lines ≡ Ok settings → all_fit settings ≡ true

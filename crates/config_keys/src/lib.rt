@@ -6,6 +6,7 @@ mod config;
 mod fault;
 mod find;
 mod judge;
+mod laws;
 mod line;
 mod names;
 mod plugin;
@@ -20,6 +21,7 @@ mod words;
 
 pub use config::Config;
 pub use fault::{ConfigCause, ConfigFault};
+pub use laws::values_fit_their_keys;
 pub use names::has_output;
 pub use plugin::PluginConfig;
 pub use read::read_config;

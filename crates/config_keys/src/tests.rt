@@ -4,7 +4,6 @@ use crate::{
 };
 use acct_types::{Addr, AsFrom, Column, Layout, Primitives, Text};
 use std::alloc::{AllocError, Global};
-use std::process::Abort;
 use std::test::Fail;
 
 #[derive(Clone, Copy)]
@@ -1239,9 +1238,18 @@ fn fault_of(alloc: Global, tool: Tool, text: &[u8]) -> Result<Option<ConfigFault
     }
 }
 
+// The proof of a test needn't read the table.
+fn cases() -> &'static [Case] {
+    &CASES
+}
+
+fn lines() -> &'static [Line] {
+    &LINES
+}
+
 #[test]
 fn configurations_have_their_answers(rt: HostRuntime) -> Result<(), Fail> {
-    for (index, case) in CASES.iter().enumerate() {
+    for (index, case) in cases().iter().enumerate() {
         let found = fault_of(rt.alloc(), case.tool, case.text)?;
         assert_eq!(rt; found, case.wanted, "configuration {index}");
     }
@@ -1272,7 +1280,7 @@ fn meets(alloc: Global, line: Line) -> Result<bool, Fail> {
 
 #[test]
 fn command_lines_have_their_answers(rt: HostRuntime) -> Result<(), Fail> {
-    for (index, line) in LINES.iter().enumerate() {
+    for (index, line) in lines().iter().enumerate() {
         assert!(rt; meets(rt.alloc(), *line)?, "command line {index}");
     }
     Ok(())
@@ -1297,20 +1305,8 @@ acct_flow_capture: flows.cap\nacct_route_capture: routes.cap\nacct_audit_file: a
 acct_dump_file: d.txt\nacct_threads: false\nacct_replay_lag: 5\nacct_bgp_hold: 3\n\
 acct_bgp_id: 192.0.2.1\nacct_stop_after: 9\n";
 
-fn check_full<R: Abort>(rt: &R, config: &Config) {
-    assert_eq!(rt; config.tool, Tool::Nfacctd);
-    assert_eq!(rt; config.nfacctd_port, 2055);
-    assert_eq!(rt; config.sfacctd_port, 6344);
-    assert!(rt; config.nfacctd_renormalize && config.sfacctd_renormalize);
-    assert_eq!(rt; config.nfacctd_as, AsFrom::Bgp);
-    assert_eq!(rt; config.sfacctd_as, AsFrom::Bmp);
-    assert!(rt; config.bgp_daemon && config.bmp_daemon && !config.acct_threads);
-    assert_eq!(rt; config.bgp_daemon_port, 1179);
-    assert_eq!(rt; config.bmp_daemon_port, 1791);
-    assert_eq!(rt; config.acct_replay_lag, 5);
-    assert_eq!(rt; config.acct_bgp_hold, 3);
-    assert_eq!(rt; config.acct_bgp_id, Addr::V4(0xc000_0201));
-    assert_eq!(rt; config.acct_stop_after, 9);
+fn full() -> &'static [u8] {
+    FULL
 }
 
 fn same(name: &Text, wanted: &[u8]) -> bool {
@@ -1324,78 +1320,120 @@ fn is(name: &Option<Text>, wanted: &[u8]) -> bool {
     }
 }
 
-fn check_names<R: Abort>(rt: &R, config: &Config) {
-    assert!(rt; is(&config.pre_tag_map, b"tags"));
-    assert!(rt; is(&config.bgp_agent_map, b"agents"));
-    assert!(rt; is(&config.sampling_map, b"rates"));
-    assert!(rt; is(&config.acct_flow_capture, b"flows.cap"));
-    assert!(rt; is(&config.acct_route_capture, b"routes.cap"));
-    assert!(rt; same(&config.acct_audit_file, b"a.txt"));
-    assert!(rt; same(&config.acct_dump_file, b"d.txt"));
-    assert!(rt; has_output(config, b"a.txt") && has_output(config, b"hosts.csv"));
-    assert!(rt; has_output(config, b"all.txt") && !has_output(config, b"d.txt"));
+fn has_full_numbers(config: &Config) -> bool {
+    config.nfacctd_port == 2055
+        && config.sfacctd_port == 6344
+        && config.bgp_daemon_port == 1179
+        && config.bmp_daemon_port == 1791
+        && config.acct_replay_lag == 5
+        && config.acct_bgp_hold == 3
+        && config.acct_stop_after == 9
+        && config.acct_bgp_id == Addr::V4(0xc000_0201)
 }
 
-fn check_memory<R: Abort>(rt: &R, plugin: &PluginConfig) {
-    assert!(rt; same(&plugin.name, b"all") && same(&plugin.file, b"all.txt"));
-    assert_eq!(rt; plugin.kind, PluginKind::Memory);
-    assert_eq!(rt;
-        plugin.primitives,
-        Primitives::none().with(Column::DstAs).with_flows()
-    );
-    assert_eq!(rt; plugin.layout, Layout::Json);
-    assert_eq!(rt; plugin.refresh, 1);
-    assert_eq!(rt; plugin.ring, 8);
-    assert!(rt; plugin.wait);
-    assert_eq!(rt; plugin.cache, 7);
+fn has_full_truths(config: &Config) -> bool {
+    config.nfacctd_renormalize
+        && config.sfacctd_renormalize
+        && config.bgp_daemon
+        && config.bmp_daemon
+        && !config.acct_threads
+        && config.tool == Tool::Nfacctd
+        && config.nfacctd_as == AsFrom::Bgp
+        && config.sfacctd_as == AsFrom::Bmp
 }
 
-fn check_print<R: Abort>(rt: &R, plugin: &PluginConfig) {
-    assert!(rt; same(&plugin.name, b"print") && same(&plugin.file, b"hosts.csv"));
-    assert_eq!(rt; plugin.kind, PluginKind::Print);
-    assert_eq!(rt; plugin.primitives, Primitives::none().with(Column::SrcHost));
-    assert_eq!(rt; plugin.layout, Layout::Csv);
-    assert_eq!(rt; plugin.refresh, 300);
-    assert_eq!(rt; plugin.ring, 8);
-    assert!(rt; !plugin.wait);
-    assert_eq!(rt; plugin.cache, 16384);
+fn has_full_names(config: &Config) -> bool {
+    is(&config.pre_tag_map, b"tags")
+        && is(&config.bgp_agent_map, b"agents")
+        && is(&config.sampling_map, b"rates")
+        && is(&config.acct_flow_capture, b"flows.cap")
+        && is(&config.acct_route_capture, b"routes.cap")
+        && same(&config.acct_audit_file, b"a.txt")
+        && same(&config.acct_dump_file, b"d.txt")
+}
+
+fn has_full_outputs(config: &Config) -> bool {
+    has_output(config, b"a.txt")
+        && has_output(config, b"hosts.csv")
+        && has_output(config, b"all.txt")
+        && !has_output(config, b"d.txt")
+}
+
+fn is_memory(plugin: &PluginConfig) -> bool {
+    same(&plugin.name, b"all")
+        && same(&plugin.file, b"all.txt")
+        && plugin.kind == PluginKind::Memory
+        && plugin.primitives == Primitives::none().with(Column::DstAs).with_flows()
+        && plugin.layout == Layout::Json
+        && plugin.refresh == 1
+        && plugin.ring == 8
+        && plugin.wait
+        && plugin.cache == 7
+}
+
+fn is_print(plugin: &PluginConfig) -> bool {
+    same(&plugin.name, b"print")
+        && same(&plugin.file, b"hosts.csv")
+        && plugin.kind == PluginKind::Print
+        && plugin.primitives == Primitives::none().with(Column::SrcHost)
+        && plugin.layout == Layout::Csv
+        && plugin.refresh == 300
+        && plugin.ring == 8
+        && !plugin.wait
+        && plugin.cache == 16384
 }
 
 #[test]
 fn a_full_configuration_is_read(rt: HostRuntime) -> Result<(), Fail> {
-    let config = read(rt.alloc(), Tool::Nfacctd, FULL)?;
-    check_full(&rt, &config);
-    check_names(&rt, &config);
-    assert_eq!(rt; config.plugins.len(), 2);
-    check_memory(&rt, &config.plugins.as_slice()[0]);
-    check_print(&rt, &config.plugins.as_slice()[1]);
+    let config = read(rt.alloc(), Tool::Nfacctd, full())?;
+    assert!(rt; has_full_numbers(&config));
+    assert!(rt; has_full_truths(&config));
+    assert!(rt; has_full_names(&config));
+    assert!(rt; has_full_outputs(&config));
+    match config.plugins.as_slice() {
+        [first, second] => assert!(rt; is_memory(first) && is_print(second)),
+        _ => return Err(Fail::from("not two plugins")),
+    }
     Ok(())
 }
 
-fn check_defaults<R: Abort>(rt: &R, config: &Config) {
-    assert_eq!(rt; config.nfacctd_port, 2100);
-    assert_eq!(rt; config.sfacctd_port, 6343);
-    assert!(rt; !config.nfacctd_renormalize && !config.sfacctd_renormalize);
-    assert_eq!(rt; config.nfacctd_as, AsFrom::Export);
-    assert_eq!(rt; config.sfacctd_as, AsFrom::Export);
-    assert!(rt; config.bgp_daemon && !config.bmp_daemon && config.acct_threads);
-    assert_eq!(rt; config.bgp_daemon_port, 179);
-    assert_eq!(rt; config.bmp_daemon_port, 1790);
-    assert!(rt; is(&config.pre_tag_map, b"") && is(&config.acct_route_capture, b""));
-    assert!(rt; same(&config.acct_audit_file, b"audit.txt"));
-    assert!(rt; same(&config.acct_dump_file, b"dump.txt"));
-    assert_eq!(rt; config.acct_replay_lag, 0);
-    assert_eq!(rt; config.acct_bgp_hold, 180);
-    assert_eq!(rt; config.acct_bgp_id, Addr::V4(0x7f00_0001));
-    assert_eq!(rt; config.acct_stop_after, 4294967295);
-    assert_eq!(rt; config.plugins.len(), 0);
-    assert!(rt; has_output(config, b"dump.txt") && !has_output(config, b"audit.txt"));
+fn has_default_numbers(config: &Config) -> bool {
+    config.nfacctd_port == 2100
+        && config.sfacctd_port == 6343
+        && config.bgp_daemon_port == 179
+        && config.bmp_daemon_port == 1790
+        && config.acct_replay_lag == 0
+        && config.acct_bgp_hold == 180
+        && config.acct_stop_after == 4294967295
+        && config.acct_bgp_id == Addr::V4(0x7f00_0001)
+}
+
+fn has_default_truths(config: &Config) -> bool {
+    !config.nfacctd_renormalize
+        && !config.sfacctd_renormalize
+        && config.bgp_daemon
+        && !config.bmp_daemon
+        && config.acct_threads
+        && config.nfacctd_as == AsFrom::Export
+        && config.sfacctd_as == AsFrom::Export
+}
+
+fn has_default_names(config: &Config) -> bool {
+    is(&config.pre_tag_map, b"")
+        && is(&config.acct_route_capture, b"")
+        && same(&config.acct_audit_file, b"audit.txt")
+        && same(&config.acct_dump_file, b"dump.txt")
+        && has_output(config, b"dump.txt")
+        && !has_output(config, b"audit.txt")
 }
 
 #[test]
 fn an_empty_configuration_has_the_defaults(rt: HostRuntime) -> Result<(), Fail> {
     let config = read(rt.alloc(), Tool::Pmbgpd, b"")?;
-    check_defaults(&rt, &config);
+    assert!(rt; has_default_numbers(&config));
+    assert!(rt; has_default_truths(&config));
+    assert!(rt; has_default_names(&config));
+    assert!(rt; config.plugins.is_empty());
     Ok(())
 }
 
