@@ -75,16 +75,16 @@ const FULL: FlowRecord = FlowRecord {
 
 /// What keys are made of, besides the record.
 #[derive(Clone, Copy)]
-struct Given<'a> {
+struct Given<'a, 'l> {
     from: AsFrom,
     src: Option<&'a RouteRef<'a>>,
     dst: Option<&'a RouteRef<'a>>,
     tags: Tags,
-    label: Option<&'a Text>,
+    label: Option<&'l Text>,
     window: u64,
 }
 
-const NOTHING: Given<'static> = Given {
+const NOTHING: Given<'static, 'static> = Given {
     from: AsFrom::Export,
     src: None,
     dst: None,
@@ -115,7 +115,7 @@ fn first_cell_is(
     alloc: Global,
     column: Column,
     r: &FlowRecord,
-    given: &Given<'_>,
+    given: &Given<'_, '_>,
     want: CellRef<'_>,
 ) -> Result<bool, NoMemory> {
     let p = Primitives::none().with(column);
@@ -244,7 +244,9 @@ fn takes_the_parts_of_routes(rt: HostRuntime) -> Result<(), Fail> {
         from: AsFrom::Bgp,
         src: Some(&src),
         dst: Some(&dst),
-        ..NOTHING
+        tags: NO_TAGS,
+        label: None,
+        window: 0,
     };
     for (column, want) in [
         (Column::SrcAs, CellRef::Number(64513)),
@@ -314,8 +316,11 @@ fn knows_paths_without_a_single_system_at_an_end(rt: HostRuntime) -> Result<(), 
         };
         let given = Given {
             from: AsFrom::Bmp,
+            src: None,
             dst: Some(&route),
-            ..NOTHING
+            tags: NO_TAGS,
+            label: None,
+            window: 0,
         };
         for (column, want) in [
             (Column::SrcAs, CellRef::Number(0)),
