@@ -1,4 +1,7 @@
-use crate::{Addr, Counts, List, NoMemory, Octets, Prefix, Text, numbers, read_address};
+use crate::{
+    Addr, CellRef, Counts, Key, List, NoMemory, Octets, Prefix, Text, numbers, read_address,
+};
+use std::hash::{FoldHasher, Hash, Hasher};
 use std::test::Fail;
 
 #[test]
@@ -275,4 +278,101 @@ fn reads_big_endian(rt: HostRuntime) {
         0x0102_0304_0506_0708_090a_0b0c_0d0e_0f10
     );
     assert_eq!(rt; numbers::after(&octets, 15), [15, 16].as_slice());
+}
+
+#[test]
+fn orders_keys_by_numbers(rt: HostRuntime) -> Result<(), NoMemory> {
+    let mut last = Key::new(rt.alloc());
+    for number in [
+        0,
+        9,
+        10,
+        0xff,
+        0x100,
+        0xffff,
+        0x1_0000,
+        0xffff_ffff,
+        0x1_0000_0000,
+        0xffff_ffff_ffff_ffff,
+    ] {
+        let mut key = Key::new(rt.alloc());
+        key.push_number(number)?;
+        assert!(rt; last < key, "{number}");
+        assert_eq!(rt; key.cells().next(), Some(CellRef::Number(number)));
+        last = key;
+    }
+    Ok(())
+}
+
+#[test]
+fn orders_keys_by_cells(rt: HostRuntime) -> Result<(), NoMemory> {
+    let mut keys = List::new(rt.alloc());
+    let mut key = Key::new(rt.alloc());
+    keys.push(key.copy()?)?;
+    key.push_number(0xffff_ffff_ffff_ffff)?;
+    keys.push(key.copy()?)?;
+    key.push_number(0)?;
+    keys.push(key)?;
+    for address in [
+        Addr::V4(9),
+        Addr::V4(0x100),
+        Addr::V4(0xffff_ffff),
+        Addr::V6(0),
+        Addr::V6(0x0100_0000_0000_0000_0000_0000_0000_0000),
+    ] {
+        let mut key = Key::new(rt.alloc());
+        key.push_address(address)?;
+        assert_eq!(rt; key.cells().next(), Some(CellRef::Address(address)));
+        keys.push(key)?;
+    }
+    let mut key = Key::new(rt.alloc());
+    key.push_mac(0x0100_5e00_00fb)?;
+    keys.push(key)?;
+    for count in 0..4 {
+        let mut key = Key::new(rt.alloc());
+        match count {
+            0 => key.push_words(b"")?,
+            1 => key.push_words(b"65000")?,
+            2 => key.push_words(b"65000_9")?,
+            _ => key.push_words(b"9")?,
+        }
+        keys.push(key)?;
+    }
+    for pair in keys.as_slice().windows(2) {
+        assert!(rt; pair[0] < pair[1], "{pair:?}");
+    }
+    Ok(())
+}
+
+#[test]
+fn keeps_long_keys(rt: HostRuntime) -> Result<(), NoMemory> {
+    let mut key = Key::new(rt.alloc());
+    for number in [0, 1, 2, 3] {
+        key.push_address(Addr::V6(number << 120))?;
+    }
+    key.push_mac(0x0100_5e00_00fb)?;
+    key.push_words(b"100_200_{300_400}")?;
+    let copy = key.copy()?;
+    assert!(rt; key == copy);
+    assert_eq!(rt; fold_of(&key), fold_of(&copy));
+    let mut cells = copy.cells();
+    for number in [0, 1, 2, 3] {
+        assert_eq!(rt;
+            cells.next(),
+            Some(CellRef::Address(Addr::V6(number << 120)))
+        );
+    }
+    assert_eq!(rt; cells.next(), Some(CellRef::Mac(0x0100_5e00_00fb)));
+    assert_eq!(rt; cells.next(), Some(CellRef::Words(b"100_200_{300_400}")));
+    assert_eq!(rt; cells.next(), None);
+    key.push_number(7)?;
+    assert!(rt; key != copy);
+    assert_ne!(rt; fold_of(&key), fold_of(&copy));
+    Ok(())
+}
+
+fn fold_of(key: &Key) -> u64 {
+    let mut state = FoldHasher::default();
+    key.hash(&mut state);
+    state.finish()
 }
