@@ -4,7 +4,9 @@ ghost use Rattle.acct_types.specs.Packed.{IsPacked, cells_in};
 ghost use Rattle.acct_types.specs.declared.addr.Addr.TheVariants.{V4, V6};
 ghost use Rattle.acct_types.specs.declared.cell.Cell.TheVariants as cell;
 
-use crate::packed::read_first;
+use crate::packed::{
+    ADDRESS_V4, ADDRESS_V6, MAC, NUMBER_8, NUMBER_16, NUMBER_32, NUMBER_64, WORDS, read_first,
+};
 use crate::{Addr, Cell, CellRef, NoMemory};
 use smallvec::SmallVec;
 use std::alloc::Global;
@@ -50,17 +52,17 @@ impl Key {
         ensures err { OnErr result (self.new ≡ self.old) }
     {
         if number < 0x100 {
-            return self.append(&[0, number as u8]);
+            return self.append(&[NUMBER_8, number as u8]);
         }
         if number < 0x1_0000 {
             let [a, b] = (number as u16).to_be_bytes();
-            return self.append(&[1, a, b]);
+            return self.append(&[NUMBER_16, a, b]);
         }
         if number < 0x1_0000_0000 {
             let [a, b, c, d] = (number as u32).to_be_bytes();
-            return self.append(&[2, a, b, c, d]);
+            return self.append(&[NUMBER_32, a, b, c, d]);
         }
-        let mut octets = [3; 9];
+        let mut octets = [NUMBER_64; 9];
         octets[1..].copy_from_slice(&number.to_be_bytes());
         self.append(&octets)
     }
@@ -81,14 +83,14 @@ impl Key {
         ensures err { OnErr result (self.new ≡ self.old) }
     {
         let [a, b, c, d] = number.to_be_bytes();
-        self.append(&[4, a, b, c, d])
+        self.append(&[ADDRESS_V4, a, b, c, d])
     }
 
     fn push_v6(&mut self, number: u128) -> Result<(), NoMemory>
         ensures ok { OnOk result (self.new ≡ self.old ++ cell.Address (V6 number) ∷ []) }
         ensures err { OnErr result (self.new ≡ self.old) }
     {
-        let mut octets = [5; 17];
+        let mut octets = [ADDRESS_V6; 17];
         octets[1..].copy_from_slice(&number.to_be_bytes());
         self.append(&octets)
     }
@@ -98,7 +100,7 @@ impl Key {
         ensures ok { OnOk result (self.new ≡ self.old ++ cell.Mac mac ∷ []) }
         ensures err { OnErr result (self.new ≡ self.old) }
     {
-        let mut octets = [6; 9];
+        let mut octets = [MAC; 9];
         octets[1..].copy_from_slice(&mac.to_be_bytes());
         self.append(&octets)
     }
@@ -110,7 +112,7 @@ impl Key {
         ensures err { OnErr result (self.new ≡ self.old) }
     {
         self.octets.reserve(words.len() + 2)?;
-        self.octets.push_reserved(7);
+        self.octets.push_reserved(WORDS);
         self.octets.extend_from_slice(words)?;
         self.octets.push_reserved(0);
         Ok(())

@@ -1,6 +1,8 @@
 use crate::{
-    Addr, Counts, Hop, List, NoMemory, Octets, Prefix, RouteAttrs, Text, numbers, read_address,
+    Addr, CellRef, Counts, Hop, Key, List, NoMemory, Octets, Prefix, RouteAttrs, Text, numbers,
+    read_address,
 };
+use std::hash::{FoldHasher, Hash, Hasher};
 use std::test::Fail;
 
 #[test]
@@ -305,4 +307,100 @@ fn prints_paths_and_communities(rt: HostRuntime) -> Result<(), Fail> {
         b"64512_{3_1_4200000000}_0 64512:100_65535:65281".as_slice()
     );
     Ok(())
+}
+
+fn orders_keys_by_numbers(rt: HostRuntime) -> Result<(), NoMemory> {
+    let mut last = Key::new(rt.alloc());
+    for number in [
+        0,
+        9,
+        10,
+        0xff,
+        0x100,
+        0xffff,
+        0x1_0000,
+        0xffff_ffff,
+        0x1_0000_0000,
+        0xffff_ffff_ffff_ffff,
+    ] {
+        let mut key = Key::new(rt.alloc());
+        key.push_number(number)?;
+        assert!(rt; last < key, "{number}");
+        assert_eq!(rt; key.cells().next(), Some(CellRef::Number(number)));
+        last = key;
+    }
+    Ok(())
+}
+
+#[test]
+fn orders_keys_by_cells(rt: HostRuntime) -> Result<(), NoMemory> {
+    let mut keys = List::new(rt.alloc());
+    let mut key = Key::new(rt.alloc());
+    keys.push(key.copy()?)?;
+    key.push_number(0xffff_ffff_ffff_ffff)?;
+    keys.push(key.copy()?)?;
+    key.push_number(0)?;
+    keys.push(key)?;
+    for address in [
+        Addr::V4(9),
+        Addr::V4(0x100),
+        Addr::V4(0xffff_ffff),
+        Addr::V6(0),
+        Addr::V6(0x0100_0000_0000_0000_0000_0000_0000_0000),
+    ] {
+        let mut key = Key::new(rt.alloc());
+        key.push_address(address)?;
+        assert_eq!(rt; key.cells().next(), Some(CellRef::Address(address)));
+        keys.push(key)?;
+    }
+    let mut key = Key::new(rt.alloc());
+    key.push_mac(0x0100_5e00_00fb)?;
+    keys.push(key)?;
+    for count in 0..4 {
+        let mut key = Key::new(rt.alloc());
+        match count {
+            0 => key.push_words(b"")?,
+            1 => key.push_words(b"65000")?,
+            2 => key.push_words(b"65000_9")?,
+            _ => key.push_words(b"9")?,
+        }
+        keys.push(key)?;
+    }
+    for pair in keys.as_slice().windows(2) {
+        assert!(rt; pair[0] < pair[1], "{pair:?}");
+    }
+    Ok(())
+}
+
+#[test]
+fn keeps_long_keys(rt: HostRuntime) -> Result<(), NoMemory> {
+    let mut key = Key::new(rt.alloc());
+    for number in [0, 1, 2, 3] {
+        key.push_address(Addr::V6(number << 120))?;
+    }
+    key.push_mac(0x0100_5e00_00fb)?;
+    key.push_words(b"100_200_{300_400}")?;
+    let copy = key.copy()?;
+    assert!(rt; key == copy);
+    assert_eq!(rt; fold_of(&key), fold_of(&copy));
+    let mut cells = copy.cells();
+    for number in [0, 1, 2, 3] {
+        assert_eq!(rt;
+            cells.next(),
+            Some(CellRef::Address(Addr::V6(number << 120)))
+        );
+    }
+    assert_eq!(rt; cells.next(), Some(CellRef::Mac(0x0100_5e00_00fb)));
+    assert_eq!(rt; cells.next(), Some(CellRef::Words(b"100_200_{300_400}")));
+    assert_eq!(rt; cells.next(), None);
+    key.push_number(7)?;
+    assert!(rt; key != copy);
+    assert_ne!(rt; fold_of(&key), fold_of(&copy));
+    Ok(())
+}
+
+fn fold_of(key: &Key) -> u64 {
+    let mut state = FoldHasher::default();
+    key.hash(&mut state);
+    state.finish()
 }
