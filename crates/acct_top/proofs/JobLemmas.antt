@@ -1,19 +1,20 @@
 -- The job that a configuration gives.
 use Rattle.std.proofs.Common.{◌≡◌, ◌∙◌, ◌≢◌, ◌∷◌, ◌++◌, [], List, ℕ, Bool, true, false, Option, Some, None, refl, sym, ap, subst}
-use Rattle.std.specs.Prelude.{◌||◌, ◌&&◌, not, Result, Ok, Err, if◌then◌else◌, map}
+use Rattle.std.specs.Prelude.{◌||◌, ◌&&◌, MatchOption, is_none, not, Result, Ok, Err, if◌then◌else◌, map}
 use Rattle.std.specs.List.{list_any}
 use Rattle.std.specs.Option.{option_to_list}
 use Rattle.std.specs.Str.{bytes_eq}
 use Rattle.std.proofs.lemmas.Slice.Eq.{bytes_eq-Decides}
 use Rattle.config_keys.specs.Judging.{settings_of}
 use Rattle.config_keys.specs.Lines.{Setting, is_among, lines_of}
-use Rattle.config_keys.specs.Reading.{ConfigSays, PluginSays, completed, config_from, config_of, config_with, judged, lacks_key, plugins_for, shares_name}
+use Rattle.config_keys.specs.Reading.{ConfigSays, PluginSays, completed, config_from, config_of, config_with, judged, lacks_key, output_names, plugins_for, shares_name}
 use Rattle.config_keys.specs.Values.{are_apart}
 use Rattle.config_keys.specs.declared.fault.ConfigCause.{ConfigCause}
-use Rattle.config_keys.specs.declared.fault.ConfigCause.TheVariants.{MissingKey, SameName}
+use Rattle.config_keys.specs.declared.fault.ConfigCause.TheVariants.{MissingKey, NotInProfile, SameName}
 use Rattle.config_keys.specs.declared.fault.ConfigFault.{ConfigFault}
 use Rattle.config_keys.specs.declared.fault.ConfigFault.TheVariants.{At}
-use Rattle.config_keys.specs.ConfigViews.{plugin_says}
+use Rattle.config_keys.specs.ConfigViews.{plugin_says, says}
+use Rattle.config_keys.specs.declared.config.Config.{Config}
 use Rattle.config_keys.specs.declared.plugin.PluginConfig.{PluginConfig}
 use Rattle.config_keys.specs.declared.tool.Tool.{Tool}
 use Rattle.config_keys.specs.declared.tool.Tool.TheVariants.{Nfacctd, Sfacctd, Pmbgpd}
@@ -56,11 +57,12 @@ three_apart : (audit file capture : List ℕ) (rest : List (List ℕ)) (captures
     → (not (are_apart (audit ∷ file ∷ [])) || captures || list_any (λ name. is_among (capture ∷ rest) name) (audit ∷ file ∷ [])) ≡ false
     → (file ≢ capture) × (file ≢ audit) × (capture ≢ audit)
 three_apart audit file capture rest captures h =
-    let outputs = split _ _ h in
-    let inputs = split _ _ (split _ _ outputs.1).1 in
-    let of_audit = split _ _ inputs.0 in
-    let of_file = split _ _ (split _ _ inputs.1).0 in
-    let not_audit = differ audit file (one_is_new _ outputs.0) in
+    let taken = λ (name : List ℕ). is_among (capture ∷ rest) name in
+    let outputs = split (not (are_apart (audit ∷ file ∷ []))) (captures || list_any taken (audit ∷ file ∷ [])) h in
+    let inputs = split (taken audit) (taken file || false) (split captures (list_any taken (audit ∷ file ∷ [])) outputs.1).1 in
+    let of_audit = split (bytes_eq capture audit) (is_among rest audit) inputs.0 in
+    let of_file = split (bytes_eq capture file) (is_among rest file) (split (taken file) false inputs.1).0 in
+    let not_audit = differ audit file (one_is_new (bytes_eq audit file) outputs.0) in
     (λ same. differ capture file of_file.0 (sym same), λ same. not_audit (sym same), differ capture audit of_audit.0)
 
 -- the names of what is built are three
@@ -90,3 +92,51 @@ pub only_plugin : (before : List PluginConfig) (last : PluginConfig) → is_one_
 only_plugin [] last h = refl
 only_plugin (plugin ∷ []) last h = cc h
 only_plugin (plugin ∷ next ∷ before) last h = cc h
+
+one_print : (config : ConfigSays) → is_unbuilt config ≡ false → is_one_print config.plugins ≡ true
+one_print config built = yes _ (split _ _ (split _ _ (split _ _ (split _ _ (split _ _ built).1).1).1).1).0
+  where
+    yes : (b : Bool) → not b ≡ false → b ≡ true
+    yes true h = refl
+    yes false h = cc h
+
+-- what a built configuration's job names
+pub record AreNames (config : Config) (before : List PluginConfig) (plugin : PluginConfig) (capture : List ℕ) : Type 0 where
+  pub output_capture : plugin.file ≢ capture
+  pub output_audit : plugin.file ≢ config.acct_audit_file
+  pub capture_audit : capture ≢ config.acct_audit_file
+  pub only : map plugin_says config.plugins ≡ plugin_says plugin ∷ []
+
+pub job_names : (config : Config) (before : List PluginConfig) (plugin : PluginConfig) (capture : List ℕ) → is_unbuilt (says config) ≡ false → shares_name (says config) ≡ false
+    → config.plugins ≡ before ++ plugin ∷ [] → config.acct_flow_capture ≡ Some capture → AreNames config before plugin capture
+job_names config before plugin capture built none plugins found =
+    let last : is_one_print (map plugin_says (before ++ plugin ∷ [])) ≡ true = subst (λ (ps : List PluginConfig). is_one_print (map plugin_says ps) ≡ true) plugins (one_print (says config) built) in
+    let first : before ≡ [] = only_plugin before plugin last in
+    let only : map plugin_says config.plugins ≡ plugin_says plugin ∷ [] = ap (map plugin_says) plugins ∙ ap (λ (ps : List PluginConfig). map plugin_says (ps ++ plugin ∷ [])) first in
+    let three = job_apart (says config) (plugin_says plugin) capture built only found none in
+    record { output_capture = three.output_capture; output_audit = three.output_audit; capture_audit = three.capture_audit; only = only }
+
+pub popped : {X : Type 0} (o : Option X) (old new : List X) (x : X) → MatchOption o ((old ≡ []) × (new ≡ [])) (λ last. old ≡ new ++ last ∷ []) → o ≡ Some x → old ≡ new ++ x ∷ []
+popped None old new x h e = cc e
+popped (Some y) old new x h e = let same : Some y ≡ Some x = e in let one : y ≡ x = cc same in subst (λ (z : _). old ≡ new ++ z ∷ []) one h
+
+-- nothing refuses it
+pub not_refused : (file : List ℕ) (config : ConfigSays) (capture : List ℕ) → is_unbuilt config ≡ false → is_among (output_names config) file ≡ false → config.acct_flow_capture ≡ Some capture → refusal_of file config ≡ None
+not_refused file config capture built other found = by (is_unbuilt config) (is_among (output_names config) file) config.acct_flow_capture built other found
+  where
+    by : (a b : Bool) (o : Option (List ℕ)) → a ≡ false → b ≡ false → o ≡ Some capture
+        → (if a then Some NotInProfile else (if b then Some SameName else (if is_none o then Some MissingKey else None))) ≡ None
+    by true b o x y z = cc x
+    by false true o x y z = cc y
+    by false false None x y z = cc z
+    by false false (Some c) x y z = refl
+
+-- an accepted configuration that nothing refuses is built
+pub is_built : (tool : Tool) (file text : List ℕ) (config : ConfigSays) → config_of tool text ≡ Ok config → refusal_of file config ≡ None → built_config tool file text ≡ Ok config
+is_built tool file text config said none = ap (built_from file) said ∙ ap (λ (r : Option ConfigCause). unless_refused r config) none
+
+pub is_refused : (tool : Tool) (file text : List ℕ) (config : ConfigSays) (cause : ConfigCause) → config_of tool text ≡ Ok config → refusal_of file config ≡ Some cause → built_config tool file text ≡ Err (At 0 cause)
+is_refused tool file text config cause said some = ap (built_from file) said ∙ ap (λ (r : Option ConfigCause). unless_refused r config) some
+
+pub is_faulty : (tool : Tool) (file text : List ℕ) (line : ℕ) (cause : ConfigCause) → config_of tool text ≡ Err (At line cause) → built_config tool file text ≡ Err (At line cause)
+is_faulty tool file text line cause said = ap (built_from file) said

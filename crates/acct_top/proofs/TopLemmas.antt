@@ -253,7 +253,7 @@ said_holds answer said tool words before after s t is h =
       | inr (inr unsaid) ↦ subst (λ (a : Answer). Holds a tool words before after) (sym unsaid.1) (subst (λ (a : Answer). Holds a tool words before after) unsaid.0 h)
     ]
 
-run_reason : (answer : Answer) (tool : Tool) (words : List (List ℕ)) (before after : State) (s t : ℕ) → RunReason answer tool tool words before after → HasReason answer tool words before after s t
+run_reason : (answer : Answer) (tool : Tool) (words : List (List ℕ)) (before after : State) (s t : ℕ) → RunReason answer tool words before after → HasReason answer tool words before after s t
 run_reason Done tool words before after s t h = h
 run_reason Usage tool words before after s t h = h
 run_reason (ConfigRefused file line cause) tool words before after s t h = h

@@ -309,6 +309,7 @@ fn prints_paths_and_communities(rt: HostRuntime) -> Result<(), Fail> {
     Ok(())
 }
 
+#[test]
 fn orders_keys_by_numbers(rt: HostRuntime) -> Result<(), NoMemory> {
     let mut last = Key::new(rt.alloc());
     for number in [

@@ -1,4 +1,5 @@
-use Rattle.std.proofs.Common.{◌∙◌, refl, ap}
+use Rattle.std.proofs.Common.{◌∙◌, ◌++◌, List, ℕ, refl, ap}
+use Rattle.acct_top.specs.Output.{rows_text}
 use Rattle.std.specs.Map.{lookup}
 use Rattle.acct_top.specs.Due.{due}
 use Rattle.acct_types.specs.Cells.{key_eq}
@@ -15,7 +16,7 @@ returns-clause-output c =
         order = c.in_ok-rows.ensures.order;
         sums = λ key. c.in_ok-rows.ensures.same key ∙ ap (λ (rows : Rows). lookup (key_eq key) rows) all ∙ c.entries_add_up.ensures.rows (due c.args.job.now c.args.datagrams.now) key;
       };
-      is = c.in_ok-purge_text.ensures.ok;
+      is = c.in_ok-purge_text.ensures.ok ∙ ap (λ (before : List ℕ). before ++ rows_text c.args.job.now c.in_ok-rows.rows) c.new-output.ensures;
     }
 
 pub returns-clause-audit : goal.returns-clause-audit

@@ -1,0 +1,6 @@
+use Rattle.config_keys.specs.ConfigViews.{says}
+use Rattle.acct_top.proofs.JobLemmas.{accepted_apart, is_built, is_faulty, is_refused}
+use Rattle.acct_top.proofs.read_job.read_job.Goals as goal
+
+pub job_of-requires : goal.job_of-requires
+job_of-requires c = accepted_apart c.args.tool c.args.text.now (says c.in-Ok.config) c.in-Ok.ensures
