@@ -1,12 +1,12 @@
 -- One more record, one more datagram.
-use Rattle.std.proofs.Common.{◌≡◌, ◌∙◌, ◌+◌, ◌*◌, ◌^◌, ◌<◌, ◌≤◌, ◌∷◌, ◌++◌, [], ℕ, List, Bool, true, false, Option, Some, unwrap_or, refl, sym, ap, ap₂, length, take, drop, get_or, arith, append_assoc, length-append, add-zero, add-one, drop-cons, ◌-◌, suc}
+use Rattle.std.proofs.Common.{◌≡◌, ◌∙◌, ◌+◌, ◌*◌, ◌^◌, ◌<◌, ◌≤◌, ◌∷◌, ◌++◌, [], ℕ, List, Bool, true, false, refl, sym, ap, ap₂, length, take, drop, get_or, arith, append_assoc, length-append, add-zero, add-one, drop-cons, ◌-◌, suc}
 use Rattle.std.specs.Prelude.{if◌then◌else◌, Result, Ok, Err}
-use Rattle.std.specs.Map.{lookup}
-use Rattle.std.proofs.lemmas.List.{append-nil, length-map, take_more, map-append}
+use Rattle.std.proofs.lemmas.List.{append-nil, take_more, map-append}
 use Rattle.std.proofs.lemmas.Grind.{flat_map-append}
 use Rattle.acct_types.specs.Counts.{IsBelow, plus}
 use Rattle.acct_types.specs.declared.datagram.Datagram.{Datagram}
 use Rattle.acct_types.specs.declared.flow.Counts.{Counts}
+use Rattle.acct_types.specs.declared.flow.FlowRecord.{FlowRecord}
 use Rattle.netflow_in.specs.Version5.{decoded_v5}
 use Rattle.netflow_in.specs.declared.refusal.Cause.{Cause}
 use Rattle.netflow_in.specs.declared.decoded.RawRecord.{RawRecord}
@@ -26,6 +26,10 @@ use Rattle.plugin_cache.specs.Sums.{EntriesAddUp, added, all_added, count_in}
 abbrev pub Rows : Type 0
 Rows = List (List Cell × Counts)
 
+-- a key in the window of a moment
+pub key_then : (job : Job) (moment window : ℕ) (flow : FlowRecord) (key : List Cell) → key ≡ key_in job window flow → window ≡ window_start job.plugin.refresh moment
+    → key ≡ key_in job (window_start job.plugin.refresh moment) flow
+key_then job moment window flow key is begins = is ∙ ap (λ (w : ℕ). key_in job w flow) begins
 
 -- the entries up to one more record
 pub record_added : EntriesAddUp → (job : Job) (moment : ℕ) (before now new : Rows) (rows : List RawRecord) (i : ℕ) (d : RawRecord) (key : List Cell) → i < length rows → now ≡ all_added before (entries_of job moment (take i rows))

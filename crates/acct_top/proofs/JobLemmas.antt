@@ -1,8 +1,7 @@
 -- The job that a configuration gives.
 use Rattle.std.proofs.Common.{◌≡◌, ◌∙◌, ◌≢◌, ◌∷◌, ◌++◌, [], List, ℕ, Bool, true, false, Option, Some, None, refl, sym, ap, subst}
-use Rattle.std.specs.Prelude.{◌||◌, ◌&&◌, MatchOption, is_none, not, Result, Ok, Err, if◌then◌else◌, map}
+use Rattle.std.specs.Prelude.{◌||◌, ◌&&◌, MatchOption, is_none, is_some, not, Result, Ok, Err, if◌then◌else◌, map}
 use Rattle.std.specs.List.{list_any}
-use Rattle.std.specs.Option.{option_to_list}
 use Rattle.std.specs.Str.{bytes_eq}
 use Rattle.std.proofs.lemmas.Slice.Eq.{bytes_eq-Decides}
 use Rattle.config_keys.specs.Judging.{settings_of}
@@ -45,6 +44,29 @@ split : (a b : Bool) → (a || b) ≡ false → (a ≡ false) × (b ≡ false)
 split true b h = cc h
 split false b h = (refl, h)
 
+first_and_third : (a b c : Bool) → (a || b || c) ≡ false → (a ≡ false) × (c ≡ false)
+first_and_third true b c h = cc h
+first_and_third false true c h = cc h
+first_and_third false false c h = (refl, h)
+
+first_and_fifth : (a b c d e f g k : Bool) → (a || b || c || d || e || f || g || k) ≡ false → (a ≡ false) × (e ≡ false)
+first_and_fifth true b c d e f g k h = cc h
+first_and_fifth false true c d e f g k h = cc h
+first_and_fifth false false true d e f g k h = cc h
+first_and_fifth false false false true e f g k h = cc h
+first_and_fifth false false false false true f g k h = cc h
+first_and_fifth false false false false false f g k h = (refl, refl)
+
+-- what is built is of nfacctd, and has one plugin that prints
+parts_built : (config : ConfigSays) → is_unbuilt config ≡ false → (not (is_nfacctd config.tool) ≡ false) × (not (is_one_print config.plugins) ≡ false)
+parts_built config built =
+    first_and_fifth (not (is_nfacctd config.tool)) config.nfacctd_renormalize (is_some config.pre_tag_map) (is_some config.sampling_map)
+    (not (is_one_print config.plugins)) config.bgp_daemon config.bmp_daemon (is_some config.bgp_agent_map) built
+
+is_true : (b : Bool) → not b ≡ false → b ≡ true
+is_true true h = refl
+is_true false h = cc h
+
 differ : (xs ys : List ℕ) → bytes_eq xs ys ≡ false → xs ≢ ys
 differ xs ys h same = let e : true ≡ false = sym ((bytes_eq-Decides xs ys).1 same) ∙ h in cc e
 
@@ -58,8 +80,8 @@ three_apart : (audit file capture : List ℕ) (rest : List (List ℕ)) (captures
     → (file ≢ capture) × (file ≢ audit) × (capture ≢ audit)
 three_apart audit file capture rest captures h =
     let taken = λ (name : List ℕ). is_among (capture ∷ rest) name in
-    let outputs = split (not (are_apart (audit ∷ file ∷ []))) (captures || list_any taken (audit ∷ file ∷ [])) h in
-    let inputs = split (taken audit) (taken file || false) (split captures (list_any taken (audit ∷ file ∷ [])) outputs.1).1 in
+    let outputs = first_and_third (not (are_apart (audit ∷ file ∷ []))) captures (list_any taken (audit ∷ file ∷ [])) h in
+    let inputs = split (taken audit) (taken file || false) outputs.1 in
     let of_audit = split (bytes_eq capture audit) (is_among rest audit) inputs.0 in
     let of_file = split (bytes_eq capture file) (is_among rest file) (split (taken file) false inputs.1).0 in
     let not_audit = differ audit file (one_is_new (bytes_eq audit file) outputs.0) in
@@ -81,11 +103,7 @@ tool_apart Pmbgpd config plugin capture is tool plugins found none = cc is
 
 pub job_apart : (config : ConfigSays) (plugin : PluginSays) (capture : List ℕ) → is_unbuilt config ≡ false → config.plugins ≡ plugin ∷ []
     → config.acct_flow_capture ≡ Some capture → shares_name config ≡ false → AreThree plugin capture config.acct_audit_file
-job_apart config plugin capture built plugins found none = tool_apart config.tool config plugin capture (yes _ (split _ _ built).0) refl plugins found none
-  where
-    yes : (b : Bool) → not b ≡ false → b ≡ true
-    yes true h = refl
-    yes false h = cc h
+job_apart config plugin capture built plugins found none = tool_apart config.tool config plugin capture (is_true _ (parts_built config built).0) refl plugins found none
 
 -- one print plugin is the only one
 pub only_plugin : (before : List PluginConfig) (last : PluginConfig) → is_one_print (map plugin_says (before ++ last ∷ [])) ≡ true → before ≡ []
@@ -94,11 +112,7 @@ only_plugin (plugin ∷ []) last h = cc h
 only_plugin (plugin ∷ next ∷ before) last h = cc h
 
 one_print : (config : ConfigSays) → is_unbuilt config ≡ false → is_one_print config.plugins ≡ true
-one_print config built = yes _ (split _ _ (split _ _ (split _ _ (split _ _ (split _ _ built).1).1).1).1).0
-  where
-    yes : (b : Bool) → not b ≡ false → b ≡ true
-    yes true h = refl
-    yes false h = cc h
+one_print config built = is_true _ (parts_built config built).1
 
 -- what a built configuration's job names
 pub record AreNames (config : Config) (before : List PluginConfig) (plugin : PluginConfig) (capture : List ℕ) : Type 0 where

@@ -1,5 +1,5 @@
 -- From what holds of a job to what holds of the words, and the answers that are owed.
-use Rattle.std.proofs.Common.{◌≡◌, ◌∙◌, ◌++◌, ◌≤◌, [], ◌∷◌, ℕ, List, Option, Some, refl, sym, ap, ap₂, subst, length, get_or, codes, inl, inr, arith}
+use Rattle.std.proofs.Common.{◌≡◌, ◌∙◌, ◌++◌, ◌≤◌, [], ◌∷◌, ℕ, List, Option, Some, refl, sym, ap, ap₂, subst, length, inl, inr, arith}
 use Rattle.std.specs.Prelude.{Err, Ok, Result}
 use Rattle.acct_types.specs.declared.datagram.Datagram.{Datagram}
 use Rattle.outside_io.specs.Causes.{Rose}
@@ -10,7 +10,7 @@ use Rattle.config_keys.specs.declared.fault.ConfigCause.{ConfigCause}
 use Rattle.acct_top.specs.declared.answer.Answer.{Answer}
 use Rattle.acct_top.specs.declared.answer.Answer.TheVariants.{Done, Usage, ConfigRefused, OpenFault, FlowFault, CaptureBad, WriteFault, SayFault, NoMemory}
 use Rattle.acct_top.specs.declared.job.Job.{Job}
-use Rattle.acct_top.specs.Answers.{Accepts, HasReason, HaveOneJob, Holds, HoldsOfJob, IsConfigRefused, IsRefused, IsUnopened, NamesFile, OfJob, RunReason}
+use Rattle.acct_top.specs.Answers.{Accepts, HasReason, HaveOneJob, Holds, HoldsOfJob, IsConfigRefused, IsRefused, IsUnopened, JobReason, NamesFile, OfJob, RunReason}
 use Rattle.acct_top.specs.Complete.{HasCapture, IsOwed}
 use Rattle.acct_top.specs.Job.{IsJobOf, built_config}
 use Rattle.config_keys.specs.ConfigViews.{plugin_says}
@@ -98,6 +98,19 @@ job_earlier NoMemory job before middle after b h = tt
 job_earlier Usage job before middle after b h = absurd h
 job_earlier (ConfigRefused file line cause) job before middle after b h = absurd h
 job_earlier SayFault job before middle after b h = absurd h
+
+-- a reason of a job that began a little later is one of the run
+pub reason_earlier : (answer : Answer) (tool : Tool) (words : List (List ℕ)) (before middle after : State) → ((name : List ℕ) → before.opens name ≤ middle.opens name)
+    → ((name : List ℕ) → before.reads name ≤ middle.reads name) → middle.writes ≡ before.writes → JobReason answer middle after → RunReason answer tool words before after
+reason_earlier Done tool words before middle after opens reads writes h = tt
+reason_earlier (OpenFault name) tool words before middle after opens reads writes h = inl (rose_earlier _ _ _ (opens name) h)
+reason_earlier FlowFault tool words before middle after opens reads writes h = (h.0, rose_earlier _ _ _ (reads h.0) h.1)
+reason_earlier (CaptureBad flows place cause) tool words before middle after opens reads writes h = tt
+reason_earlier (WriteFault name) tool words before middle after opens reads writes h = subst (λ (f : List ℕ → ℕ). Rose (f name) (after.writes name)) writes h
+reason_earlier NoMemory tool words before middle after opens reads writes h = tt
+reason_earlier Usage tool words before middle after opens reads writes h = absurd h
+reason_earlier (ConfigRefused file line cause) tool words before middle after opens reads writes h = absurd h
+reason_earlier SayFault tool words before middle after opens reads writes h = absurd h
 
 -- what holds of the words' job holds of the words
 pub holds_of_words : (answer : Answer) (tool : Tool) (words : List (List ℕ)) (job : Job) (before after : State) → Accepts tool words before.names job → HoldsOfJob answer job before after → Holds answer tool words before after

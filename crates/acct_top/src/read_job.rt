@@ -7,7 +7,9 @@ ghost use Rattle.acct_top.specs.Job.{IsJob, IsJobOf, RefusalIs, built_config, is
 
 use crate::Job;
 use acct_types::Text;
-use config_keys::{Config, ConfigCause, ConfigFault, PluginConfig, PluginKind, Tool, has_output, read_config};
+use config_keys::{
+    Config, ConfigCause, ConfigFault, PluginConfig, PluginKind, Tool, has_output, read_config,
+};
 use std::alloc::Global;
 
 fn is_nfacctd(tool: Tool) -> bool

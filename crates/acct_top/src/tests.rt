@@ -235,7 +235,8 @@ fn holds_parts(
 
 fn is_refused(file: &Text, line: u32, cause: AnyCause, wanted: Kind) -> bool {
     let right = match (cause, wanted) {
-        (AnyCause::Config(cause), Kind::Refused(number, wanted)) => line == number && cause == wanted,
+        (AnyCause::Config(cause), Kind::Refused(number, wanted)) => line == number
+            && cause == wanted,
         (AnyCause::TooLong, Kind::TooLong) => line == 0,
         _ => false,
     };
@@ -788,7 +789,10 @@ print_output_file_append: true\nacct_flow_capture: flows.cap\n",
         (
             &[
                 (1, NO_NAMES),
-                (1, b"print_output_file: nfacctd.conf\nnfacctd_renormalize: true\n"),
+                (
+                    1,
+                    b"print_output_file: nfacctd.conf\nnfacctd_renormalize: true\n",
+                ),
             ],
             NOTHING_BUILT,
             NOT_IN_PROFILE,

@@ -18,4 +18,4 @@ returns-clause-job c =
     let other : is_among (output_names (says c.args.config)) c.args.file.now ≡ false =
     ap (λ (name : List ℕ). is_among (output_names (says c.args.config)) name) (sym c.as_slice.ensures) ∙ sym c.has_output.ensures ∙ c.if-has_output.false in
     let names = job_names c.args.config _ _ _ built c.requires (popped _ _ _ _ c.pop.ensures c.unwrap-plugin.ensures) c.in-Some.is in
-    (not_refused _ _ _ built other c.in-Some.is, record { plugin = names.only; as_from = refl; capture = c.in-Some.is; audit = refl })
+    (not_refused c.args.file.now (says c.args.config) c.in-Some.capture built other c.in-Some.is, record { plugin = names.only; as_from = refl; capture = c.in-Some.is; audit = refl })

@@ -1,5 +1,5 @@
 use Rattle.config_keys.specs.ConfigViews.{says}
-use Rattle.acct_top.proofs.JobLemmas.{accepted_apart, is_built, is_faulty, is_refused}
+use Rattle.acct_top.proofs.JobLemmas.{accepted_apart}
 use Rattle.acct_top.proofs.read_job.read_job.Goals as goal
 
 pub job_of-requires : goal.job_of-requires

@@ -2,7 +2,7 @@ use Rattle.std.proofs.Common.{◌∙◌, map, string_bytes, ℕ, List, ap, subst
 use Rattle.outside_io.specs.Names.{Names}
 use Rattle.acct_top.specs.Answers.{Accepts}
 use Rattle.acct_top.specs.Job.{IsJob}
-use Rattle.acct_top.proofs.TopLemmas.{holds_of_words, job_earlier}
+use Rattle.acct_top.proofs.TopLemmas.{holds_of_words, job_earlier, reason_earlier}
 use Rattle.acct_top.proofs.top.run.Goals as goal
 
 pub returns-in-Ok-read_job-clause-holds : goal.returns-in-Ok-read_job-clause-holds
@@ -36,3 +36,8 @@ returns-in-Ok-read_job-clause-others g c = λ told name apart.
     } in
     let other = apart job accepted in
     c.run_job.ensures.others told name other.0 other.1 ∙ ap (λ (n : Names). n name) (read.names told)
+
+pub returns-in-Ok-read_job-clause-reason : goal.returns-in-Ok-read_job-clause-reason
+returns-in-Ok-read_job-clause-reason g c =
+    let read = c.in-Ok.ensures in
+    reason_earlier c.run_job.result c.args.tool (map string_bytes c.args.words.now) _ _ _ read.opens.later read.reads.later read.writes c.run_job.ensures.reason
