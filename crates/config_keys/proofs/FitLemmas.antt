@@ -1,8 +1,8 @@
 -- The values of settings fit their keys.
-use Rattle.std.proofs.Common.{◌≡◌, ◌∙◌, ◌&&◌, ◌+◌, ◌++◌, ap, ap₂, ℕ, Bool, true, false, List, [], ◌∷◌, Option, Some, None, Ok, Err, refl, subst}
+use Rattle.std.proofs.Common.{◌≡◌, ◌∙◌, ◌&&◌, ◌+◌, ◌++◌, ap, ap₂, ℕ, Bool, true, false, List, [], ◌∷◌, Option, Some, None, Ok, refl, subst}
 use Rattle.std.specs.Prelude.{if◌then◌else◌, is_none}
 use Rattle.std.proofs.lemmas.List.Folds.{list_all-append}
-use Rattle.config_keys.specs.Judging.{all_fit, is_repeated, key_cause, line_cause, said_by, setting_cause, settings_from, unless_caused, value_fits}
+use Rattle.config_keys.specs.Judging.{all_fit, is_repeated, key_cause, line_cause, said_by, settings_from, unless_caused, value_fits}
 use Rattle.config_keys.specs.Lines.{Text, Setting, Statement, Nothing, NoColon, NoLabel, Says, is_text, statement_of}
 use Rattle.config_keys.specs.Table.{KeyRow, row_of}
 use Rattle.config_keys.specs.Values.{NamedPlugin, value_cause}

@@ -1,5 +1,5 @@
 -- Numbers in texts.
-use Rattle.std.proofs.Common.{◌≡◌, ◌∙◌, ◌==◌, ◌&&◌, ◌||◌, ◌<◌, ◌≤◌, ◌^◌, ℕ, Bool, true, false, not, nat_lt, List, [], ◌∷◌, length, refl, sym, ap, subst, cond, arith, Option, Some, None, ◌≢◌, ◌⊎◌, inl, inr}
+use Rattle.std.proofs.Common.{◌≡◌, ◌==◌, ◌&&◌, ◌||◌, ◌<◌, ◌≤◌, ◌^◌, ℕ, Bool, true, false, nat_lt, [], ◌∷◌, length, refl, sym, subst, arith, Some, None, ◌⊎◌, inl, inr}
 use Rattle.std.specs.Prelude.{if◌then◌else◌, nat_le}
 use borrow.Author.Tests.{eqb-true, leb-true, ltb-true}
 use Rattle.std.specs.List.{list_all}
@@ -12,7 +12,7 @@ use Rattle.config_keys.specs.Lines.{Text}
 use Rattle.config_keys.specs.Ranges.{IsHold, IsWithin}
 use Rattle.config_keys.specs.Table.{fits, from_to, hold_range}
 use Rattle.config_keys.specs.declared.table.Range.{Range}
-use Rattle.config_keys.specs.Values.{is_digit, is_numeral, begins_with_zero}
+use Rattle.config_keys.specs.Values.{is_digit, is_numeral}
 
 pub both : (a b : Bool) → (a && b) ≡ true → (a ≡ true) × (b ≡ true)
 both true b h = (refl, h)

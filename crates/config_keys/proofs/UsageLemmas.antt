@@ -1,24 +1,23 @@
 -- The commands are simple, so their matches and their refusals are known.
 use Rattle.std.proofs.Common.{◌≡◌, ◌∙◌, ◌⊎◌, [], ◌∷◌, List, ap, refl, subst, true, inl, inr}
-use Rattle.std.proofs.Common.{◌<◌, ◌||◌, ℕ, Bool, Option, Some, None, length, get_or, map, option_map, codes, sym, false, arith, is_some}
-use Rattle.std.specs.Prelude.{IfSome, slice_get, option_and_then, pos, ◌&&◌, not}
+use Rattle.std.proofs.Common.{◌<◌, ℕ, Option, Some, None, get_or, map, option_map, codes, sym, arith}
+use Rattle.std.specs.Prelude.{IfSome, slice_get, option_and_then, pos}
 use Rattle.std.specs.Borrow.{Bor}
-use Rattle.std.specs.List.{All, AllByRecursion, find}
+use Rattle.std.specs.List.{All, AllByRecursion}
 use Rattle.std.specs.Str.{bytes_eq}
 use Rattle.std.proofs.lemmas.List.{get_or-map, length-map}
 use Rattle.std.proofs.lemmas.List.Elements.{All-from_recursion, All-get_or}
 use Rattle.std.proofs.lemmas.Slice.Eq.{bytes_eq-Decides}
 use Rattle.clap.proofs.OnLiterals.{clap_on_literals}
 use Rattle.clap.proofs.CallerLemmas.{entry_by_id}
-use Rattle.clap.specs.Facts.{Entry, EntryPasses, PassesArg, ValuesPass, IsParsed, parser_of_value}
+use Rattle.clap.specs.Facts.{Entry, EntryPasses, PassesArg, ValuesPass, parser_of_value}
 use Rattle.clap.specs.Words.{Accepts, Rule, IsSignedIn, args_of, groups_of, app_of, built, first_value, is_buildable, matched_of, rule_of, shape_of}
 use Rattle.clap.specs.declared.builder.command.Command.{Command}
-use Rattle.clap.specs.declared.builder.arg.Arg.{Arg}
 use Rattle.clap.specs.declared.builder.value_parser.ValueParser.{ValueParser}
 use Rattle.clap.specs.declared.builder.value_parser.ValueParser.TheVariants as parser
 use Rattle.clap.specs.declared.parser.matches.Found.{Found}
 use Rattle.clap.specs.declared.parser.matches.MatchedArg.{MatchedArg}
-use Rattle.clap.specs.Words.{App, Text, Kinds, HasKind, IsAmong, fault_of, is_simple, is_simple_and_free, kind_of}
+use Rattle.clap.specs.Words.{App, Kinds, HasKind, is_simple, is_simple_and_free, kind_of}
 use Rattle.clap.specs.declared.error.Error.{Error}
 use Rattle.clap.specs.declared.error.ErrorKind.TheVariants.{OutOfMemory}
 use Rattle.config_keys.specs.declared.tool.Tool.{Tool}

@@ -1,11 +1,11 @@
 -- What a configuration says, by its settings.
-use Rattle.std.specs.Prelude.{ℕ, ◌&&◌, ◌||◌, ◌+◌, Bool, true, false, not, List, [], ◌∷◌, ◌++◌, map, find, Option, Some, None, option_map, option_and_then, unwrap_or, is_some, is_none, Result, Ok, Err, if◌then◌else◌, codes}
+use Rattle.std.specs.Prelude.{ℕ, ◌&&◌, ◌||◌, Bool, true, false, not, List, [], ◌∷◌, ◌++◌, map, find, Option, Some, None, option_map, option_and_then, unwrap_or, is_some, is_none, Result, Ok, Err, if◌then◌else◌, codes}
 use Rattle.std.specs.List.{list_any}
 use Rattle.std.specs.Option.{option_to_list}
 use Rattle.std.specs.Str.{bytes_eq}
 use Rattle.acct_types.specs.Columns.{with_column}
 use Rattle.acct_types.specs.declared.addr.Addr.{Addr}
-use Rattle.acct_types.specs.declared.addr.Addr.TheVariants.{V4, V6}
+use Rattle.acct_types.specs.declared.addr.Addr.TheVariants.{V4}
 use Rattle.acct_types.specs.declared.choice.AsFrom.{AsFrom}
 use Rattle.acct_types.specs.declared.choice.AsFrom.TheVariants.{Export, Bgp, Bmp}
 use Rattle.acct_types.specs.declared.choice.Layout.{Layout}

@@ -1,5 +1,5 @@
 -- The command lines of the tools, as `clap` reads them.
-use Rattle.std.specs.Prelude.{◌≡◌, ℕ, Bool, true, pos, List, [], ◌∷◌, Option, Some, None, codes, ◌≢◌, Result, Ok, Err, IsSome, option_map}
+use Rattle.std.specs.Prelude.{◌≡◌, ℕ, true, pos, List, [], Option, Some, None, codes, ◌≢◌, Result, Ok, Err, IsSome, option_map}
 use Rattle.std.specs.Str.Parse.{digits_value, without_leading_plus}
 use Rattle.config_keys.specs.declared.words.Words.{Words}
 use Rattle.config_keys.specs.declared.words.Words.TheVariants.{Config, Generate}

@@ -1,5 +1,5 @@
 use Rattle.std.proofs.Common.{◌≡◌, ◌∙◌, List, Some, ap, map, sym}
-use Rattle.config_keys.proofs.PluginLemmas.{AreFine, named_are_fine, stay_apart, stay_few}
+use Rattle.config_keys.proofs.PluginLemmas.{named_are_fine, stay_apart, stay_few}
 use Rattle.config_keys.specs.JudgingViews.{plugins_view}
 use Rattle.config_keys.specs.Reading.{named_plugins}
 use Rattle.config_keys.specs.ValueViews.{named_view}

@@ -1,4 +1,4 @@
-use Rattle.std.proofs.Common.{◌≡◌, ℕ, length}
+use Rattle.std.proofs.Common.{◌≡◌, length}
 use Rattle.config_keys.specs.Lines.{after_blanks}
 use Rattle.config_keys.proofs.line.after_blanks.Given as goal
 

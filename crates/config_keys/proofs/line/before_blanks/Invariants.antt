@@ -1,4 +1,4 @@
-use Rattle.std.proofs.Common.{◌≡◌, ℕ, length}
+use Rattle.std.proofs.Common.{◌≡◌, length}
 use Rattle.config_keys.specs.Lines.{before_blanks}
 use Rattle.config_keys.proofs.line.before_blanks.Given as goal
 

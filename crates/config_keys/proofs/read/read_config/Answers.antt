@@ -1,4 +1,4 @@
-use Rattle.std.proofs.Common.{ap, arith, length, map}
+use Rattle.std.proofs.Common.{ap, arith, length}
 use Rattle.std.proofs.lemmas.List.{length-map}
 use Rattle.std.specs.Borrow.{Bor}
 use Rattle.config_keys.proofs.LineLemmas.{few_lines}

@@ -1,4 +1,4 @@
-use Rattle.std.proofs.Common.{rules, ◌≡◌, ◌∙◌, ap, refl, sym, codes, map, string_bytes, inl, inr, pos}
+use Rattle.std.proofs.Common.{◌≡◌, ◌∙◌, ap, sym, codes, map, string_bytes, inl, inr, pos}
 use Rattle.clap.specs.Words.{App, IsSignedIn, app_of, fault_of, first_of, found_of, is_simple, is_simple_and_free, matches_of}
 use Rattle.clap.proofs.SimpleLemmas.{plain_fields}
 use Rattle.clap.proofs.WalkLemmas.{first_value-rows}
