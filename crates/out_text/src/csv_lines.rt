@@ -16,18 +16,22 @@ use std::alloc::Global;
 use std::io::Write;
 
 /// A header line, and a line for each row.
-pub fn csv_table(alloc: Global, p: &Primitives, rows: &[(Key, Counts)]) -> Result<Octets, NoMemory>
-    ensures { IfOk result (λ text. text ≡ csv_line (header_entries p.now) ++ row_lines csv_line p.now rows.now) }
+pub fn csv_table(
+    alloc: Global,
+    primitives: &Primitives,
+    rows: &[(Key, Counts)],
+) -> Result<Octets, NoMemory>
+    ensures { IfOk result (λ text. text ≡ csv_line (header_entries primitives.now) ++ row_lines csv_line primitives.now rows.now) }
 {
     let mut writer = WriterBuilder::new()
         .flexible(true)
         .from_writer(Vec::new(alloc));
     let mut cell = Octets::new(alloc);
     let mut entries = List::new(alloc);
-    header_entries(p, &mut entries)?;
+    header_entries(primitives, &mut entries)?;
     write_line(&mut writer, entries.as_slice(), &mut cell)?;
     for row in rows {
-        row_entries(p, row, &mut entries)?;
+        row_entries(primitives, row, &mut entries)?;
         write_line(&mut writer, entries.as_slice(), &mut cell)?;
     }
     match writer.into_inner() {

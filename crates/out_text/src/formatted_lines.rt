@@ -17,17 +17,17 @@ static SPACES: [u8; WIDEST] = [b' '; WIDEST];
 /// A header line, and a line for each row.
 pub fn formatted_table(
     alloc: Global,
-    p: &Primitives,
+    primitives: &Primitives,
     rows: &[(Key, Counts)],
 ) -> Result<Octets, NoMemory>
-    ensures { IfOk result (λ text. text ≡ formatted_line (header_entries p.now) ++ row_lines formatted_line p.now rows.now) }
+    ensures { IfOk result (λ text. text ≡ formatted_line (header_entries primitives.now) ++ row_lines formatted_line primitives.now rows.now) }
 {
     let mut text = Octets::new(alloc);
     let mut entries = List::new(alloc);
-    header_entries(p, &mut entries)?;
+    header_entries(primitives, &mut entries)?;
     append_line(entries.as_slice(), &mut text)?;
     for row in rows {
-        row_entries(p, row, &mut entries)?;
+        row_entries(primitives, row, &mut entries)?;
         append_line(entries.as_slice(), &mut text)?;
     }
     Ok(text)

@@ -24,16 +24,16 @@ pub fn members_are_in_order()
 /// An object on a line for each row.
 pub fn json_objects(
     alloc: Global,
-    p: &Primitives,
+    primitives: &Primitives,
     rows: &[(Key, Counts)],
 ) -> Result<Octets, NoMemory>
-    ensures { IfOk result (λ text. text ≡ row_lines json_line p.now rows.now) }
+    ensures { IfOk result (λ text. text ≡ row_lines json_line primitives.now rows.now) }
 {
     let mut text = Octets::new(alloc);
     let mut cell = Octets::new(alloc);
     let mut entries = List::new(alloc);
     for row in rows {
-        row_entries(p, row, &mut entries)?;
+        row_entries(primitives, row, &mut entries)?;
         append_object(alloc, entries.as_slice(), &mut cell, &mut text)?;
     }
     Ok(text)

@@ -12,12 +12,12 @@ use std::alloc::Global;
 #[tactic(auto, unfolding(crate::specs::Purges::purge_text))]
 pub fn purge_text(
     alloc: Global,
-    p: &Primitives,
+    primitives: &Primitives,
     layout: Layout,
     purge: &Purge,
     out: &mut Octets,
 ) -> Result<(), NoMemory>
-    ensures ok { OnOk result (out.new ≡ out.old ++ purge_text p.now layout purge.now) }
+    ensures ok { OnOk result (out.new ≡ out.old ++ purge_text primitives.now layout purge.now) }
     ensures err { OnErr result (out.new ≡ out.old) }
 {
     let rows = purge.rows.as_slice();
@@ -25,9 +25,9 @@ pub fn purge_text(
         return Ok(());
     }
     let text = match layout {
-        Layout::Formatted => formatted_table(alloc, p, rows)?,
-        Layout::Csv => csv_table(alloc, p, rows)?,
-        Layout::Json => json_objects(alloc, p, rows)?,
+        Layout::Formatted => formatted_table(alloc, primitives, rows)?,
+        Layout::Csv => csv_table(alloc, primitives, rows)?,
+        Layout::Json => json_objects(alloc, primitives, rows)?,
     };
     out.extend(text.as_slice())
 }

@@ -23,28 +23,31 @@ pub struct Entry<'a> {
 
 /// Puts the entries of the header in place of those that were there.
 #[tactic(auto, unfolding(crate::specs::Rows::header_entries))]
-pub fn header_entries<'a>(p: &Primitives, entries: &mut List<Entry<'a>>) -> Result<(), NoMemory>
-    ensures { OnOk result (entries_of entries.new ≡ header_entries p.now) }
+pub fn header_entries<'a>(
+    primitives: &Primitives,
+    entries: &mut List<Entry<'a>>,
+) -> Result<(), NoMemory>
+    ensures { OnOk result (entries_of entries.new ≡ header_entries primitives.now) }
 {
     entries.truncate(0);
-    push_column_names(p, entries)?;
-    push_count_names(p.flows, entries)
+    push_column_names(primitives, entries)?;
+    push_count_names(primitives.flows, entries)
 }
 
 /// Puts the entries of a row in place of those that were there.
 #[tactic(auto, unfolding(crate::specs::Rows::row_entries))]
 pub fn row_entries<'a>(
-    p: &Primitives,
+    primitives: &Primitives,
     row: &'a (Key, Counts),
     entries: &mut List<Entry<'a>>,
 ) -> Result<(), NoMemory>
-    ensures entries { OnOk result (entries_of entries.new ≡ row_entries p.now row.now) }
+    ensures entries { OnOk result (entries_of entries.new ≡ row_entries primitives.now row.now) }
     ensures plain { have_plain_words row.now.0 ≡ true }
 {
     let (key, counts) = row;
     entries.truncate(0);
-    push_cells(p, key, entries)?;
-    push_counts(p.flows, counts, entries)
+    push_cells(primitives, key, entries)?;
+    push_counts(primitives.flows, counts, entries)
 }
 
 fn push_name<'a>(field: Field, entries: &mut List<Entry<'a>>) -> Result<(), NoMemory>
@@ -57,10 +60,13 @@ fn push_name<'a>(field: Field, entries: &mut List<Entry<'a>>) -> Result<(), NoMe
     })
 }
 
-fn push_column_names<'a>(p: &Primitives, entries: &mut List<Entry<'a>>) -> Result<(), NoMemory>
-    ensures { OnOk result (entries_of entries.new ≡ entries_of entries.old ++ map name_entry (map field.Column (columns_of p.now))) }
+fn push_column_names<'a>(
+    primitives: &Primitives,
+    entries: &mut List<Entry<'a>>,
+) -> Result<(), NoMemory>
+    ensures { OnOk result (entries_of entries.new ≡ entries_of entries.old ++ map name_entry (map field.Column (columns_of primitives.now))) }
 {
-    let mut columns = *p;
+    let mut columns = *primitives;
     while let Some((column, others)) = columns.split_first() {
         push_name(Field::Column(column), entries)?;
         columns = others;
@@ -80,15 +86,15 @@ fn push_count_names<'a>(flows: bool, entries: &mut List<Entry<'a>>) -> Result<()
 
 // The cells of a key under the columns.
 fn push_cells<'a>(
-    p: &Primitives,
+    primitives: &Primitives,
     key: &'a Key,
     entries: &mut List<Entry<'a>>,
 ) -> Result<(), NoMemory>
-    ensures entries { OnOk result (entries_of entries.new ≡ entries_of entries.old ++ under_columns (columns_of p.now) key.now) }
+    ensures entries { OnOk result (entries_of entries.new ≡ entries_of entries.old ++ under_columns (columns_of primitives.now) key.now) }
     ensures plain { have_plain_words key.now ≡ true }
 {
     let mut cells = key.cells();
-    let mut columns = *p;
+    let mut columns = *primitives;
     while let Some((column, others)) = columns.split_first() {
         entries.push(Entry {
             field: Field::Column(column),

@@ -280,11 +280,15 @@ fn key_of(alloc: Global, values: &[Value]) -> Result<Key, NoMemory> {
 
 // The columns are asked for from the last to the first.
 fn primitives_of(columns: &[Column], flows: bool) -> Primitives {
-    let mut p = Primitives::none();
+    let mut primitives = Primitives::none();
     for place in (0..columns.len()).rev() {
-        p = p.with(columns[place]);
+        primitives = primitives.with(columns[place]);
     }
-    if flows { p.with_flows() } else { p }
+    if flows {
+        primitives.with_flows()
+    } else {
+        primitives
+    }
 }
 
 fn purge_of(alloc: Global, rows: &[&[Value]], counts: Counts) -> Result<Purge, NoMemory> {
@@ -301,10 +305,10 @@ fn purge_of(alloc: Global, rows: &[&[Value]], counts: Counts) -> Result<Purge, N
 #[test]
 fn prints_purges(rt: HostRuntime) -> Result<(), Fail> {
     for case in &CASES {
-        let p = primitives_of(case.columns, case.flows);
+        let primitives = primitives_of(case.columns, case.flows);
         let purge = purge_of(rt.alloc(), case.rows, case.counts)?;
         let mut out = Octets::new(rt.alloc());
-        purge_text(rt.alloc(), &p, case.layout, &purge, &mut out)?;
+        purge_text(rt.alloc(), &primitives, case.layout, &purge, &mut out)?;
         assert_eq!(rt; out.as_slice(), case.want.as_bytes(), "{}", case.want);
     }
     Ok(())
@@ -312,7 +316,7 @@ fn prints_purges(rt: HostRuntime) -> Result<(), Fail> {
 
 #[test]
 fn prints_each_column(rt: HostRuntime) -> Result<(), Fail> {
-    let p = primitives_of(Column::all(), true);
+    let primitives = primitives_of(Column::all(), true);
     let mut rows = List::new(rt.alloc());
     rows.push((key_of(rt.alloc(), &VALUES)?, COUNTED))?;
     rows.push((key_of(rt.alloc(), &ABSENT)?, Counts::nothing()))?;
@@ -323,7 +327,7 @@ fn prints_each_column(rt: HostRuntime) -> Result<(), Fail> {
         (Layout::Json, JSON),
     ] {
         let mut out = Octets::from_slice(rt.alloc(), b"before\n")?;
-        purge_text(rt.alloc(), &p, layout, &purge, &mut out)?;
+        purge_text(rt.alloc(), &primitives, layout, &purge, &mut out)?;
         let Some(text) = out.as_slice().strip_prefix(b"before\n") else {
             return Err("overwritten".into());
         };

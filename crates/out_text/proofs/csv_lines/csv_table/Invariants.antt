@@ -10,5 +10,5 @@ abbrev pub invariant-loop-row : goal.invariant-loop-row
 invariant-loop-row l = record {
   setup : writer_setup l.writer ≡ row_setup;
   fresh : fields_written l.writer ≡ 0;
-  text : (writer_under l.writer).items ++ writer_pending l.writer ≡ csv_line (header_entries l.p) ++ row_lines csv_line l.p (take l.row-index l.rows);
+  text : (writer_under l.writer).items ++ writer_pending l.writer ≡ csv_line (header_entries l.primitives) ++ row_lines csv_line l.primitives (take l.row-index l.rows);
 }
