@@ -9,7 +9,7 @@ use Rattle.acct_types.specs.declared.choice.AsFrom.TheVariants.{Export, Bgp, Bmp
 use Rattle.acct_types.specs.declared.route.Hop.{Hop}
 use Rattle.acct_types.specs.declared.route.Hop.TheVariants.{One, Set}
 use Rattle.acct_types.specs.declared.route.RouteRef.{RouteRef}
-use Rattle.primitive_keys.specs.Values.{address_in, number_in}
+use Rattle.primitive_keys.specs.Values.{number_in}
 
 -- what was exported or what the route says, by where such parts come from
 abbrev pub chosen : {X : Type 0} → AsFrom → X → X → X

@@ -1,5 +1,5 @@
 -- Values of a record that may be absent.
-use Rattle.std.specs.Prelude.{ℕ, ◌%◌, ◌^◌, List, [], Option, None, Some, min}
+use Rattle.std.specs.Prelude.{ℕ, ◌%◌, ◌^◌, List, [], Option, min}
 use Rattle.std.specs.Option.{unwrap_or}
 use Rattle.acct_types.specs.Prefixes.{network_of, width_of}
 use Rattle.acct_types.specs.declared.addr.Addr.{Addr}

@@ -1,7 +1,7 @@
 use Rattle.std.proofs.Common.{◌≡◌, ◌++◌, length, map}
 use Rattle.std.specs.Option.{option_copied}
 use Rattle.acct_types.specs.Primitives.{columns_of}
-use Rattle.primitive_keys.specs.Keys.{cell_in, key_cells_of}
+use Rattle.primitive_keys.specs.Keys.{cell_in}
 use Rattle.primitive_keys.proofs.key.key_of.Given as goal
 
 -- the cells of the rest are still to be added
