@@ -9,6 +9,7 @@ use Rattle.flow_templates.specs.declared.template.Template.{Template}
 use Rattle.flow_templates.specs.declared.template.TemplateKey.{TemplateKey}
 use Rattle.flow_templates.specs.declared.change.TemplateChange.{TemplateChange}
 use Rattle.flow_templates.specs.declared.change.TemplateChange.TheVariants.{Put, Withdraw, WithdrawAll}
+pub use Rattle.flow_templates.specs.Keys.{key_of}
 use Rattle.flow_templates.specs.Templates.{is_accepted}
 
 abbrev pub Entries : Type 0
@@ -26,9 +27,6 @@ same_domain a b = same_address a.exporter b.exporter && (a.version == b.version 
 
 abbrev pub same_key : TemplateKey → TemplateKey → Bool
 same_key a b = same_domain a.domain b.domain && a.id == b.id
-
-abbrev pub key_of : Domain → ℕ → TemplateKey
-key_of domain id = record { domain = domain; id = id }
 
 -- the template that is kept under a key
 abbrev pub found : Entries → TemplateKey → Option Template

@@ -29,8 +29,8 @@ has_allowed_widths version template = list_all (is_allowed version) (judged_fiel
 -- A template as an accepted record has it: only widths that are allowed, and records of one octet at least.
 abbrev pub is_accepted : ℕ → Template → Bool
 is_accepted version template =
-    has_allowed_widths version template && nat_le 1 (least_length version template.fields)
-    && nat_le template.scope_fields (length template.fields) && nat_le (length template.fields) 65535
+    nat_le template.scope_fields (length template.fields) && nat_le (length template.fields) 65535
+    && has_allowed_widths version template && nat_le 1 (least_length version template.fields)
 
 -- what a record defines is an accepted template
 abbrev pub DefinesAccepted : ℕ → TemplateWhat → Type 0

@@ -7,6 +7,8 @@ mod reading;
 mod staged;
 mod store;
 mod template;
+#[cfg(test)]
+mod tests;
 
 pub use change::{TemplateChange, changes_add_up};
 pub use reading::{read_options_template, read_template};

@@ -1,10 +1,10 @@
 //! Template records of NetFlow version 9 (RFC 3954, 5.2 and 6.1).
 
 ghost use Rattle.std.specs.Prelude.{◌≡◌, ◌≢◌, ◌≤◌, ◌*◌, ◌+◌, length, drop, IfOk, IfErr, Ok, Err, true, false};
-ghost use Rattle.flow_templates.specs.Templates.{field_of, fields_of, judged, judged_fields, DefinesAccepted, template_record};
+ghost use Rattle.flow_templates.specs.Templates.{field_of, fields_of, judged, DefinesAccepted, template_record};
 
 use crate::elements::are_allowed;
-use crate::template::least_length_of;
+use crate::template::{fields_to_judge, least_length_of};
 use crate::{FieldSpec, Template, TemplateFault, TemplateTurn, TemplateWhat};
 use acct_types::numbers::{after, u16_at};
 use acct_types::{List, NoMemory};
@@ -36,18 +36,6 @@ fn read_fields(alloc: Global, count: usize, octets: &[u8]) -> Result<List<FieldS
         rest = after(rest, PAIR);
     }
     Ok(List::from_vec(fields))
-}
-
-// In version 9 the fields of the scope are skipped by their place, whatever their elements.
-fn fields_to_judge(version: u16, scope_fields: u16, fields: &[FieldSpec]) -> &[FieldSpec]
-    requires { scope_fields ≤ length fields.now }
-    ensures { result.now ≡ judged_fields version scope_fields fields.now }
-{
-    if version == 9 {
-        &fields[usize::from(scope_fields)..]
-    } else {
-        fields
-    }
 }
 
 // A record whose octets are whole.

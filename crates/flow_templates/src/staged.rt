@@ -1,4 +1,4 @@
-ghost use Rattle.std.specs.Prelude.{◌≡◌, ◌++◌, [], ◌∷◌, true, OnOk, OnErr, IfSome};
+ghost use Rattle.std.specs.Prelude.{◌≡◌, ◌==◌, length, ◌++◌, [], ◌∷◌, true, OnOk, OnErr, IfSome};
 ghost use Rattle.std.specs.Option.{option_copied};
 ghost use Rattle.flow_templates.specs.declared.change.TemplateChange.TheVariants as change;
 ghost use Rattle.flow_templates.specs.Changes.{after_all, ChangesAll, found, key_of};
@@ -55,16 +55,19 @@ impl Staged {
         }
     }
 
+    pub fn is_empty(&self) -> bool
+        ensures { result ≡ (length self.now.templates == 0) }
+    {
+        self.changes.is_empty()
+    }
+
     /// Notes behind the earlier changes that a template is put. After NoMemory nothing has changed.
     pub fn put(&mut self, domain: &Domain, id: u16, template: Template) -> Result<(), NoMemory>
         requires { is_accepted domain.now.version template ≡ true }
         ensures ok { OnOk result (self.new.templates ≡ self.old.templates ++ change.Put (key_of domain.now id) template ∷ []) }
         ensures err { OnErr result (self.new ≡ self.old) }
     {
-        let key = TemplateKey {
-            domain: *domain,
-            id,
-        };
+        let key = TemplateKey::new(domain, id);
         self.changes.push(TemplateChange::Put(key, template))
     }
 
@@ -73,10 +76,7 @@ impl Staged {
         ensures ok { OnOk result (self.new.templates ≡ self.old.templates ++ change.Withdraw (key_of domain.now id) ∷ []) }
         ensures err { OnErr result (self.new ≡ self.old) }
     {
-        let key = TemplateKey {
-            domain: *domain,
-            id,
-        };
+        let key = TemplateKey::new(domain, id);
         self.changes.push(TemplateChange::Withdraw(key))
     }
 
@@ -95,10 +95,7 @@ impl Staged {
         ensures found { option_copied result ≡ after_all self.now.templates (key_of domain.now id) (found stores.now.templates (key_of domain.now id)) }
         ensures accepted { IfSome result (λ template. is_accepted domain.now.version template.now ≡ true) }
     {
-        let key = TemplateKey {
-            domain: *domain,
-            id,
-        };
+        let key = TemplateKey::new(domain, id);
         let mut found = stores.templates.find(domain, id);
         for change in self.changes.as_slice() {
             found = change.after(&key, found);

@@ -91,10 +91,7 @@ impl TemplateStore {
         ensures ok { OnOk result (Changes self.old self.new (change.Put (key_of domain.now id) template)) }
         ensures err { OnErr result (self.new ≡ self.old) }
     {
-        let key = TemplateKey {
-            domain: *domain,
-            id,
-        };
+        let key = TemplateKey::new(domain, id);
         self.templates.insert(key, template)?;
         Ok(())
     }
@@ -103,10 +100,7 @@ impl TemplateStore {
     pub fn withdraw(&mut self, domain: &Domain, id: u16)
         ensures { Changes self.old self.new (change.Withdraw (key_of domain.now id)) }
     {
-        let key = TemplateKey {
-            domain: *domain,
-            id,
-        };
+        let key = TemplateKey::new(domain, id);
         let _withdrawn = self.templates.swap_remove(&key);
     }
 
@@ -122,10 +116,7 @@ impl TemplateStore {
         ensures found { option_copied result ≡ found self.now (key_of domain.now id) }
         ensures accepted { IfSome result (λ template. is_accepted domain.now.version template.now ≡ true) }
     {
-        let key = TemplateKey {
-            domain: *domain,
-            id,
-        };
+        let key = TemplateKey::new(domain, id);
         self.templates.get(&key)
     }
 

@@ -1,6 +1,8 @@
 ghost use Rattle.std.specs.Prelude.{◌≡◌, ◌≤◌, length};
-ghost use Rattle.flow_templates.specs.Templates.{least_length, least_width};
+ghost use Rattle.flow_templates.specs.Keys.{key_of};
+ghost use Rattle.flow_templates.specs.Templates.{is_accepted, judged_fields, least_length, least_width};
 
+use crate::elements::are_allowed;
 use acct_types::{Addr, List, NoMemory};
 
 /// Where the ids of templates are apart: an exporter, its version of NetFlow (10 for IPFIX), and its source id (RFC 3954, 5.1)
@@ -17,6 +19,17 @@ pub struct Domain {
 pub struct TemplateKey {
     pub domain: Domain,
     pub id: u16,
+}
+
+impl TemplateKey {
+    pub fn new(domain: &Domain, id: u16) -> TemplateKey
+        ensures { result ≡ key_of domain.now id }
+    {
+        TemplateKey {
+            domain: *domain,
+            id,
+        }
+    }
 }
 
 /// A field of a template: its element, which an enterprise may have defined, and its width in octets.
@@ -102,7 +115,31 @@ pub(crate) fn least_length_of(version: u16, fields: &[FieldSpec]) -> u32
     octets
 }
 
+// In version 9 the fields of the scope are skipped by their place, whatever their elements.
+pub(crate) fn fields_to_judge(version: u16, scope_fields: u16, fields: &[FieldSpec]) -> &[FieldSpec]
+    requires { scope_fields ≤ length fields.now }
+    ensures { result.now ≡ judged_fields version scope_fields fields.now }
+{
+    if version == 9 {
+        &fields[usize::from(scope_fields)..]
+    } else {
+        fields
+    }
+}
+
 impl Template {
+    /// Whether an accepted record of this version may define this template: its widths are allowed, and each record that
+    /// it describes has an octet at least.
+    pub fn is_accepted(&self, version: u16) -> bool
+        ensures { result ≡ is_accepted version self.now }
+    {
+        let fields = self.fields.as_slice();
+        usize::from(self.scope_fields) <= fields.len()
+            && fields.len() <= 65535
+            && are_allowed(version, fields_to_judge(version, self.scope_fields, fields))
+            && least_length_of(version, fields) >= 1
+    }
+
     /// The fewest octets of a record that this template describes.
     pub fn least_length(&self, version: u16) -> u32
         requires { length self.now.fields ≤ 65535 }
