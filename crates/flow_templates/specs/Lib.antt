@@ -1,0 +1,4 @@
+pub mod Changes
+pub mod Elements
+pub mod Keys
+pub mod Templates

@@ -1,0 +1,179 @@
+ghost use Rattle.std.specs.Prelude.{◌≡◌};
+
+use crate::{
+    Domain, Staged, Stores, Template, TemplateFault, TemplateTurn, TemplateWhat,
+    read_options_template, read_template,
+};
+use acct_types::Addr;
+use std::alloc::Global;
+use std::test::Fail;
+
+// id 300: source and destination address, one octet of no element that is read
+const ADDRESSES: [u8; 16] = [1, 44, 0, 3, 0, 8, 0, 4, 0, 12, 0, 4, 3, 231, 0, 1];
+
+// id 301: a scope of one field, then the sampler's id and interval
+const SAMPLERS: [u8; 18] = [1, 45, 0, 4, 0, 8, 0, 8, 0, 1, 0, 48, 0, 1, 0, 50, 0, 4];
+
+fn domain(id: u32) -> Domain
+    ensures { result.version ≡ 9 }
+{
+    Domain {
+        exporter: Addr::V4(0xc000_0201),
+        version: 9,
+        id,
+    }
+}
+
+fn defined(turn: TemplateTurn) -> Result<Template, Fail> {
+    match turn.what {
+        TemplateWhat::Defined(template) => Ok(template),
+        _ => Err("no template".into()),
+    }
+}
+
+fn addresses(alloc: Global) -> Result<Template, Fail> {
+    let turn = read_template(alloc, 9, &ADDRESSES).map_err(|_| "refused")?;
+    defined(turn)
+}
+
+fn samplers(alloc: Global) -> Result<Template, Fail> {
+    let turn = read_options_template(alloc, 9, &SAMPLERS).map_err(|_| "refused")?;
+    defined(turn)
+}
+
+#[test]
+fn a_template_field_by_field(rt: HostRuntime) -> Result<(), Fail> {
+    let mut octets = [0u8; 20];
+    octets[..16].copy_from_slice(&ADDRESSES);
+    let turn = read_template(rt.alloc(), 9, &octets).map_err(|_| "refused")?;
+    assert_eq!(rt; turn.id, 300);
+    assert_eq!(rt; turn.used, 16);
+    let template = defined(turn)?;
+    assert!(rt; !template.options && template.scope_fields == 0);
+    assert_eq!(rt; template.fields.len(), 3);
+    let [source, destination, other] = template.fields.as_slice() else {
+        return Err("not three fields".into());
+    };
+    assert_eq!(rt;
+        (source.enterprise, source.element, source.width),
+        (None, 8, 4)
+    );
+    assert_eq!(rt; (destination.element, destination.width), (12, 4));
+    assert_eq!(rt; (other.element, other.width), (999, 1));
+    assert_eq!(rt; template.least_length(9), 9);
+    Ok(())
+}
+
+#[test]
+fn an_options_template_has_a_scope(rt: HostRuntime) -> Result<(), Fail> {
+    let turn = read_options_template(rt.alloc(), 9, &SAMPLERS).map_err(|_| "refused")?;
+    assert_eq!(rt; turn.id, 301);
+    assert_eq!(rt; turn.used, 18);
+    let template = defined(turn)?;
+    assert!(rt; template.options && template.scope_fields == 1);
+    let [scope, sampler, interval] = template.fields.as_slice() else {
+        return Err("not three fields".into());
+    };
+    // the scope may be one octet wide, though element 8 as a field may not
+    assert_eq!(rt; (scope.element, scope.width), (8, 1));
+    assert_eq!(rt; (sampler.element, sampler.width), (48, 1));
+    assert_eq!(rt; (interval.element, interval.width), (50, 4));
+    Ok(())
+}
+
+#[test]
+fn a_refusal_has_its_cause(rt: HostRuntime) {
+    let templates: [(&[u8], TemplateFault); 10] = [
+        (&[1, 44, 0], TemplateFault::TemplateCut),
+        (&[0, 255, 0, 0], TemplateFault::TemplateId),
+        (&[0, 0, 0, 0], TemplateFault::TemplateId),
+        (&[1, 0, 0, 0], TemplateFault::TemplateEmpty),
+        (&[1, 0, 0, 1, 0, 8, 0], TemplateFault::TemplateCut),
+        (&[1, 0, 0, 2, 0, 8, 0, 5], TemplateFault::TemplateCut),
+        (&[1, 0, 0, 1, 0, 8, 0, 5], TemplateFault::FieldWidth),
+        (&[1, 0, 0, 1, 0, 8, 0, 0], TemplateFault::FieldWidth),
+        (&[1, 0, 0, 1, 0, 1, 0, 9], TemplateFault::FieldWidth),
+        (&[1, 0, 0, 1, 3, 231, 0, 0], TemplateFault::TemplateEmpty),
+    ];
+    for (octets, cause) in templates {
+        let refused = read_template(rt.alloc(), 9, octets).err();
+        assert_eq!(rt; refused, Some(cause));
+    }
+    let options: [(&[u8], TemplateFault); 7] = [
+        (&[0, 255, 0, 0], TemplateFault::TemplateId),
+        (&[1, 0, 0, 0, 0], TemplateFault::TemplateCut),
+        (&[1, 0, 0, 0, 0, 0], TemplateFault::TemplateEmpty),
+        (&[1, 0, 0, 2, 0, 2, 0, 1, 0, 4], TemplateFault::TemplateCut),
+        (&[1, 0, 0, 4, 0, 4, 0, 1, 0, 4], TemplateFault::TemplateCut),
+        (&[1, 0, 0, 0, 0, 4, 0, 48, 0, 9], TemplateFault::FieldWidth),
+        (
+            &[1, 0, 0, 4, 0, 0, 0, 34, 0, 0],
+            TemplateFault::TemplateEmpty,
+        ),
+    ];
+    for (octets, cause) in options {
+        let refused = read_options_template(rt.alloc(), 9, octets).err();
+        assert_eq!(rt; refused, Some(cause));
+    }
+}
+
+#[test]
+fn any_width_will_do_for_an_element_that_is_not_read(rt: HostRuntime) {
+    // 65535 is a width as any other in version 9, and 305 an element of IPFIX alone
+    for octets in [
+        [1u8, 0, 0, 1, 3, 231, 255, 255],
+        [1, 0, 0, 1, 1, 49, 0, 9],
+        [1, 0, 0, 1, 0, 58, 0, 8],
+    ] {
+        assert!(rt; read_template(rt.alloc(), 9, &octets).is_ok());
+    }
+}
+
+#[test]
+fn an_id_is_one_of_its_domain(rt: HostRuntime) -> Result<(), Fail> {
+    let mut stores = Stores::new(rt.alloc());
+    let template = addresses(rt.alloc())?;
+    let options = samplers(rt.alloc())?;
+    if !template.is_accepted(9) || !options.is_accepted(9) {
+        return Err("not accepted".into());
+    }
+    let store = &mut stores.templates;
+    store.put(&domain(1), 300, template)?;
+    store.put(&domain(2), 300, options)?;
+    assert!(rt;
+        store
+            .find(&domain(1), 300)
+            .is_some_and(|kept| !kept.options)
+    );
+    assert!(rt; store.find(&domain(2), 300).is_some_and(|kept| kept.options));
+    assert!(rt; store.find(&domain(1), 301).is_none());
+    store.withdraw_all(&domain(2), false);
+    assert!(rt; store.find(&domain(2), 300).is_some());
+    store.withdraw_all(&domain(2), true);
+    assert!(rt; store.find(&domain(2), 300).is_none());
+    store.withdraw(&domain(1), 300);
+    assert!(rt; store.find(&domain(1), 300).is_none());
+    Ok(())
+}
+
+#[test]
+fn staged_changes_wait_for_the_commit(rt: HostRuntime) -> Result<(), Fail> {
+    let mut stores = Stores::new(rt.alloc());
+    let mut staged = Staged::new(rt.alloc());
+    let template = addresses(rt.alloc())?;
+    let options = samplers(rt.alloc())?;
+    if !template.is_accepted(9) || !options.is_accepted(9) {
+        return Err("not accepted".into());
+    }
+    staged.put(&domain(1), 300, template)?;
+    staged.put(&domain(1), 301, options)?;
+    staged.withdraw(&domain(2), 300)?;
+    staged.withdraw_all(&domain(1), true)?;
+    assert!(rt; staged.find(&stores, &domain(1), 300).is_some());
+    assert!(rt; staged.find(&stores, &domain(1), 301).is_none());
+    assert!(rt; stores.templates.find(&domain(1), 300).is_none());
+    staged.commit(&mut stores)?;
+    assert!(rt; stores.templates.find(&domain(1), 300).is_some());
+    assert!(rt; stores.templates.find(&domain(1), 301).is_none());
+    Ok(())
+}
