@@ -39,15 +39,6 @@ impl<T> List<T> {
         }
     }
 
-    /// No item, with room for so many.
-    pub fn with_capacity(alloc: Global, count: usize) -> Result<List<T>, NoMemory>
-        ensures { IfOk result (λ list. list ≡ []) }
-    {
-        Ok(List {
-            items: Vec::with_capacity(alloc, count)?,
-        })
-    }
-
     /// The items of a vector, which takes no memory.
     pub fn from_vec(items: Vec<T>) -> List<T>
         ensures { result ≡ items.items }
@@ -60,11 +51,6 @@ impl<T> List<T> {
         ensures { result.items ≡ self }
     {
         self.items
-    }
-
-    /// Where the items are kept.
-    pub fn allocator(&self) -> Global {
-        *self.items.allocator()
     }
 
     pub fn len(&self) -> usize
@@ -134,7 +120,7 @@ impl<T: Copy> List<T> {
     pub fn copy(&self) -> Result<List<T>, NoMemory>
         ensures { IfOk result (λ copy. copy ≡ self.now) }
     {
-        List::from_slice(self.allocator(), &self.items)
+        List::from_slice(*self.items.allocator(), &self.items)
     }
 }
 

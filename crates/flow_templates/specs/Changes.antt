@@ -1,5 +1,5 @@
 -- The templates that are kept, as a map from keys to templates, and what changes it.
-use Rattle.std.specs.Prelude.{ℕ, ◌≡◌, ◌==◌, ◌&&◌, ◌++◌, Bool, true, false, List, [], ◌∷◌, Option, Some, None, if◌then◌else◌, not, IfSome}
+use Rattle.std.specs.Prelude.{◌≡◌, ◌==◌, ◌&&◌, ◌++◌, Bool, true, false, List, [], ◌∷◌, Option, Some, None, if◌then◌else◌, not, IfSome}
 use Rattle.std.specs.Bool.{beq}
 use Rattle.std.specs.Map.{lookup}
 use Rattle.acct_types.specs.declared.addr.Addr.{Addr}

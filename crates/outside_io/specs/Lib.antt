@@ -6,3 +6,4 @@ pub mod Plan
 pub mod Memory
 pub mod MemoryPlace
 pub mod SayOut
+pub mod FilePlace

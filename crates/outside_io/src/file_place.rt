@@ -1,5 +1,5 @@
-ghost use Rattle.std.specs.Prelude.{◌≡◌, ◌<◌, ◌≤◌, None, false};
-ghost use Rattle.outside_io.specs.Named.{count_of};
+ghost use Rattle.std.specs.Prelude.{◌≡◌, List, ℕ, None, false};
+ghost use Rattle.outside_io.specs.FilePlace.{file_open_faults, file_read_faults, file_write_faults};
 ghost use Rattle.outside_io.specs.SayOut.{say_faults};
 
 use crate::named::NamedValues;
@@ -73,7 +73,12 @@ pub struct FilePlace<R: Files + Drop> {
 }
 
 impl<R: Files + Drop> FilePlace<R> {
-    pub fn new(alloc: Global, rt: R) -> FilePlace<R> {
+    /// The files of the runtime, none of which has failed yet. Takes no memory.
+    pub fn new(alloc: Global, rt: R) -> FilePlace<R>
+        ensures open_faults { (name : List ℕ) → file_open_faults result name ≡ 0 }
+        ensures read_faults { (name : List ℕ) → file_read_faults result name ≡ 0 }
+        ensures write_faults { (name : List ℕ) → file_write_faults result name ≡ 0 }
+    {
         FilePlace {
             rt,
             open_faults: NamedValues::new(alloc),
@@ -102,11 +107,11 @@ where
 
     ghost taken = { λ _ _. None };
 
-    ghost open_faults = { λ place. count_of place.open_faults };
+    ghost open_faults = { file_open_faults };
 
-    ghost read_faults = { λ place. count_of place.read_faults };
+    ghost read_faults = { file_read_faults };
 
-    ghost write_faults = { λ place. count_of place.write_faults };
+    ghost write_faults = { file_write_faults };
 
     fn open_in(&mut self, name: &Text) -> Result<FileSource<R::File>, IoFault> {
         let mut how = OpenOptions::new();

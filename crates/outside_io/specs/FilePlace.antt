@@ -1,0 +1,13 @@
+-- How often opening, reading and writing the system's files failed, by name.
+use Rattle.std.specs.Prelude.{ℕ, List}
+use Rattle.outside_io.specs.Named.{count_of}
+use Rattle.outside_io.specs.declared.file_place.FilePlace.{FilePlace}
+
+abbrev pub file_open_faults : {R File Folder : Type 0} → FilePlace R File Folder → List ℕ → ℕ
+file_open_faults place = count_of place.open_faults
+
+abbrev pub file_read_faults : {R File Folder : Type 0} → FilePlace R File Folder → List ℕ → ℕ
+file_read_faults place = count_of place.read_faults
+
+abbrev pub file_write_faults : {R File Folder : Type 0} → FilePlace R File Folder → List ℕ → ℕ
+file_write_faults place = count_of place.write_faults
