@@ -1,15 +1,14 @@
 -- The job that a configuration gives.
 use Rattle.std.proofs.Common.{◌≡◌, ◌∙◌, ◌≢◌, ◌∷◌, ◌++◌, [], List, ℕ, Bool, true, false, Option, Some, None, refl, sym, ap, subst}
-use Rattle.std.specs.Prelude.{◌||◌, ◌&&◌, MatchOption, is_none, is_some, not, Result, Ok, Err, if◌then◌else◌, map}
+use Rattle.std.specs.Prelude.{◌||◌, ◌&&◌, MatchOption, is_some, not, Result, Ok, Err, if◌then◌else◌, map}
 use Rattle.std.specs.List.{list_any}
 use Rattle.std.specs.Str.{bytes_eq}
 use Rattle.std.proofs.lemmas.Slice.Eq.{bytes_eq-Decides}
 use Rattle.config_keys.specs.Judging.{settings_of}
 use Rattle.config_keys.specs.Lines.{Setting, is_among, lines_of}
-use Rattle.config_keys.specs.Reading.{ConfigSays, PluginSays, completed, config_from, config_of, config_with, judged, lacks_key, output_names, plugins_for, shares_name}
+use Rattle.config_keys.specs.Reading.{ConfigSays, PluginSays, completed, config_from, config_of, config_with, judged, lacks_key, plugins_for, shares_name}
 use Rattle.config_keys.specs.Values.{are_apart}
-use Rattle.config_keys.specs.declared.fault.ConfigCause.{ConfigCause}
-use Rattle.config_keys.specs.declared.fault.ConfigCause.TheVariants.{MissingKey, NotInProfile, SameName}
+use Rattle.config_keys.specs.declared.fault.ConfigCause.TheVariants.{MissingKey, SameName}
 use Rattle.config_keys.specs.declared.fault.ConfigFault.{ConfigFault}
 use Rattle.config_keys.specs.declared.fault.ConfigFault.TheVariants.{At}
 use Rattle.config_keys.specs.ConfigViews.{plugin_says, says}
@@ -17,7 +16,7 @@ use Rattle.config_keys.specs.declared.config.Config.{Config}
 use Rattle.config_keys.specs.declared.plugin.PluginConfig.{PluginConfig}
 use Rattle.config_keys.specs.declared.tool.Tool.{Tool}
 use Rattle.config_keys.specs.declared.tool.Tool.TheVariants.{Nfacctd, Sfacctd, Pmbgpd}
-use Rattle.acct_top.specs.Job.{built_config, built_from, is_nfacctd, is_one_print, is_unbuilt, refusal_of, unless_refused}
+use Rattle.acct_top.specs.Job.{collects, is_one_print, is_unbuilt}
 
 -- ---- no two names of an accepted configuration are the same
 
@@ -49,19 +48,19 @@ first_and_third true b c h = cc h
 first_and_third false true c h = cc h
 first_and_third false false c h = (refl, h)
 
-first_and_fifth : (a b c d e f g k : Bool) → (a || b || c || d || e || f || g || k) ≡ false → (a ≡ false) × (e ≡ false)
-first_and_fifth true b c d e f g k h = cc h
-first_and_fifth false true c d e f g k h = cc h
-first_and_fifth false false true d e f g k h = cc h
-first_and_fifth false false false true e f g k h = cc h
-first_and_fifth false false false false true f g k h = cc h
-first_and_fifth false false false false false f g k h = (refl, refl)
+first_two : (a b c d e : Bool) → (a || b || c || d || e) ≡ false → (a ≡ false) × (b ≡ false)
+first_two true b c d e h = cc h
+first_two false true c d e h = cc h
+first_two false false c d e h = (refl, refl)
 
--- what is built is of nfacctd, and has one plugin that prints
-parts_built : (config : ConfigSays) → is_unbuilt config ≡ false → (not (is_nfacctd config.tool) ≡ false) × (not (is_one_print config.plugins) ≡ false)
+-- what is built collects, and has one plugin that prints
+parts_built : (config : ConfigSays) → is_unbuilt config ≡ false → (not (collects config.tool) ≡ false) × (not (is_one_print config.plugins) ≡ false)
 parts_built config built =
-    first_and_fifth (not (is_nfacctd config.tool)) config.nfacctd_renormalize (is_some config.pre_tag_map) (is_some config.sampling_map)
-    (not (is_one_print config.plugins)) config.bgp_daemon config.bmp_daemon (is_some config.bgp_agent_map) built
+    first_two (not (collects config.tool)) (not (is_one_print config.plugins)) config.bgp_daemon config.bmp_daemon (is_some config.bgp_agent_map) built
+
+-- the tool is a collector's
+pub is_collector : (config : ConfigSays) → is_unbuilt config ≡ false → config.tool ≢ Pmbgpd
+is_collector config built is = let no : not (collects config.tool) ≡ true = ap (λ (t : Tool). not (collects t)) is in let both : true ≡ false = sym no ∙ (parts_built config built).0 in cc both
 
 is_true : (b : Bool) → not b ≡ false → b ≡ true
 is_true true h = refl
@@ -93,12 +92,14 @@ pub record AreThree (plugin : PluginSays) (capture audit : List ℕ) : Type 0 wh
   pub output_audit : plugin.file ≢ audit
   pub capture_audit : capture ≢ audit
 
-tool_apart : (tool : Tool) (config : ConfigSays) (plugin : PluginSays) (capture : List ℕ) → is_nfacctd tool ≡ true → config.tool ≡ tool → config.plugins ≡ plugin ∷ []
+tool_apart : (tool : Tool) (config : ConfigSays) (plugin : PluginSays) (capture : List ℕ) → collects tool ≡ true → config.tool ≡ tool → config.plugins ≡ plugin ∷ []
     → config.acct_flow_capture ≡ Some capture → shares_name config ≡ false → AreThree plugin capture config.acct_audit_file
 tool_apart Nfacctd config plugin capture is tool plugins found none =
     let names = three_apart config.acct_audit_file plugin.file capture _ _ (rw (tool, plugins, found) at none) in
     record { output_capture = names.0; output_audit = names.1; capture_audit = names.2 }
-tool_apart Sfacctd config plugin capture is tool plugins found none = cc is
+tool_apart Sfacctd config plugin capture is tool plugins found none =
+    let names = three_apart config.acct_audit_file plugin.file capture _ _ (rw (tool, plugins, found) at none) in
+    record { output_capture = names.0; output_audit = names.1; capture_audit = names.2 }
 tool_apart Pmbgpd config plugin capture is tool plugins found none = cc is
 
 pub job_apart : (config : ConfigSays) (plugin : PluginSays) (capture : List ℕ) → is_unbuilt config ≡ false → config.plugins ≡ plugin ∷ []
@@ -133,24 +134,3 @@ job_names config before plugin capture built none plugins found =
 pub popped : {X : Type 0} (o : Option X) (old new : List X) (x : X) → MatchOption o ((old ≡ []) × (new ≡ [])) (λ last. old ≡ new ++ last ∷ []) → o ≡ Some x → old ≡ new ++ x ∷ []
 popped None old new x h e = cc e
 popped (Some y) old new x h e = let same : Some y ≡ Some x = e in let one : y ≡ x = cc same in subst (λ (z : _). old ≡ new ++ z ∷ []) one h
-
--- nothing refuses it
-pub not_refused : (file : List ℕ) (config : ConfigSays) (capture : List ℕ) → is_unbuilt config ≡ false → is_among (output_names config) file ≡ false → config.acct_flow_capture ≡ Some capture → refusal_of file config ≡ None
-not_refused file config capture built other found = by (is_unbuilt config) (is_among (output_names config) file) config.acct_flow_capture built other found
-  where
-    by : (a b : Bool) (o : Option (List ℕ)) → a ≡ false → b ≡ false → o ≡ Some capture
-        → (if a then Some NotInProfile else (if b then Some SameName else (if is_none o then Some MissingKey else None))) ≡ None
-    by true b o x y z = cc x
-    by false true o x y z = cc y
-    by false false None x y z = cc z
-    by false false (Some c) x y z = refl
-
--- an accepted configuration that nothing refuses is built
-pub is_built : (tool : Tool) (file text : List ℕ) (config : ConfigSays) → config_of tool text ≡ Ok config → refusal_of file config ≡ None → built_config tool file text ≡ Ok config
-is_built tool file text config said none = ap (built_from file) said ∙ ap (λ (r : Option ConfigCause). unless_refused r config) none
-
-pub is_refused : (tool : Tool) (file text : List ℕ) (config : ConfigSays) (cause : ConfigCause) → config_of tool text ≡ Ok config → refusal_of file config ≡ Some cause → built_config tool file text ≡ Err (At 0 cause)
-is_refused tool file text config cause said some = ap (built_from file) said ∙ ap (λ (r : Option ConfigCause). unless_refused r config) some
-
-pub is_faulty : (tool : Tool) (file text : List ℕ) (line : ℕ) (cause : ConfigCause) → config_of tool text ≡ Err (At line cause) → built_config tool file text ≡ Err (At line cause)
-is_faulty tool file text line cause said = ap (built_from file) said

@@ -1,4 +1,5 @@
 pub mod CountLemmas
 pub mod JobLemmas
+pub mod ReadingLemmas
 pub mod RunLemmas
 pub mod TopLemmas

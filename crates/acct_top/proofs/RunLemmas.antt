@@ -71,7 +71,7 @@ pub record RunFacts (job : Job) (before after : State) (failed whole : Bool) (ou
   pub between : Names
   pub first : Names
   pub wrote : Finished first between job.plugin.file (old_octets before.names job.plugin.file) (rows_text job rows) output (Rose (before.writes job.plugin.file) (after.writes job.plugin.file))
-  pub wrote_audit : Finished between after.names job.audit [] (audit_text (flows_of octets)) audit (Rose (before.writes job.audit) (after.writes job.audit))
+  pub wrote_audit : Finished between after.names job.audit [] (audit_text job (flows_of octets)) audit (Rose (before.writes job.audit) (after.writes job.audit))
   pub others : KeepsOthers job before.names after.names
 
 pub run_facts : (job : Job) (before after : State) (n1 n2 : Names) (failed whole : Bool) (octets : List ℕ) (texts : Texts) (output audit : Result (Unit {0}) IoFault)

@@ -1,22 +1,17 @@
 -- From what holds of a job to what holds of the words, and the answers that are owed.
-use Rattle.std.proofs.Common.{◌≡◌, ◌∙◌, ◌++◌, ◌≤◌, [], ◌∷◌, ℕ, List, Option, Some, refl, sym, ap, ap₂, subst, length, inl, inr, arith}
-use Rattle.std.specs.Prelude.{Err, Ok, Result}
+use Rattle.std.proofs.Common.{◌≡◌, ◌∙◌, ◌++◌, ◌≤◌, [], ℕ, List, Option, Some, refl, sym, ap, subst, inl, inr}
+use Rattle.std.specs.Prelude.{Bool}
 use Rattle.acct_types.specs.declared.datagram.Datagram.{Datagram}
 use Rattle.outside_io.specs.Causes.{Rose}
 use Rattle.outside_io.specs.Names.{Names, old_octets}
 use Rattle.acct_top.specs.declared.answer.AnyCause.{AnyCause}
-use Rattle.acct_top.specs.declared.answer.AnyCause.TheVariants.{Config, TooLong}
-use Rattle.config_keys.specs.declared.fault.ConfigCause.{ConfigCause}
 use Rattle.acct_top.specs.declared.answer.Answer.{Answer}
 use Rattle.acct_top.specs.declared.answer.Answer.TheVariants.{Done, Usage, ConfigRefused, OpenFault, FlowFault, CaptureBad, WriteFault, SayFault, NoMemory}
 use Rattle.acct_top.specs.declared.job.Job.{Job}
-use Rattle.acct_top.specs.Answers.{Accepts, HasReason, HaveOneJob, Holds, HoldsOfJob, IsConfigRefused, IsRefused, IsUnopened, JobReason, NamesFile, OfJob, RunReason}
+use Rattle.acct_top.specs.Answers.{Accepts, HasReason, HaveOneJob, Holds, HoldsOfJob, IsConfigRefused, IsUnopened, NamesFile, RunReason}
 use Rattle.acct_top.specs.Complete.{HasCapture, IsOwed}
-use Rattle.acct_top.specs.Job.{IsJobOf, built_config}
-use Rattle.config_keys.specs.ConfigViews.{plugin_says}
-use Rattle.config_keys.specs.Reading.{ConfigSays}
-use Rattle.config_keys.specs.declared.fault.ConfigFault.{ConfigFault}
-use Rattle.config_keys.specs.declared.fault.ConfigFault.TheVariants.{At}
+use Rattle.acct_top.specs.Reading.{GivesNoJob, IsJob}
+use Rattle.acct_top.proofs.ReadingLemmas.{one_refusal, refused_or_not, rose_earlier, same_job, same_octets}
 use Rattle.config_keys.specs.declared.tool.Tool.{Tool}
 use Rattle.acct_top.specs.Conservation.{flows_of, HoldsText, IsAccountedButFor, IsWholeCapture, KeepsOthers}
 use Rattle.acct_top.specs.Output.{rows_text}
@@ -30,9 +25,6 @@ pub record BeganLater (before middle : State) : Type 0 where
   pub names : middle.names ≡ before.names
   pub writes : middle.writes ≡ before.writes
   pub reads : (name : List ℕ) → before.reads name ≤ middle.reads name
-
-rose_earlier : (before between now : ℕ) → before ≤ between → Rose between now → Rose before now
-rose_earlier before between now le rose = omega arith
 
 text_earlier : (w w' : List ℕ → ℕ) (after : List ℕ → ℕ) (name start text : List ℕ) (octets : Option (List ℕ)) → w' ≡ w → HoldsText (Rose (w' name) (after name)) start text octets → HoldsText (Rose (w name) (after name)) start text octets
 text_earlier w w' after name start text octets same h = subst (λ (f : List ℕ → ℕ). HoldsText (Rose (f name) (after name)) start text octets) same h
@@ -99,19 +91,6 @@ job_earlier Usage job before middle after b h = absurd h
 job_earlier (ConfigRefused file line cause) job before middle after b h = absurd h
 job_earlier SayFault job before middle after b h = absurd h
 
--- a reason of a job that began a little later is one of the run
-pub reason_earlier : (answer : Answer) (tool : Tool) (words : List (List ℕ)) (before middle after : State) → ((name : List ℕ) → before.opens name ≤ middle.opens name)
-    → ((name : List ℕ) → before.reads name ≤ middle.reads name) → middle.writes ≡ before.writes → JobReason answer middle after → RunReason answer tool words before after
-reason_earlier Done tool words before middle after opens reads writes h = tt
-reason_earlier (OpenFault name) tool words before middle after opens reads writes h = inl (rose_earlier _ _ _ (opens name) h)
-reason_earlier FlowFault tool words before middle after opens reads writes h = (h.0, rose_earlier _ _ _ (reads h.0) h.1)
-reason_earlier (CaptureBad flows place cause) tool words before middle after opens reads writes h = tt
-reason_earlier (WriteFault name) tool words before middle after opens reads writes h = subst (λ (f : List ℕ → ℕ). Rose (f name) (after.writes name)) writes h
-reason_earlier NoMemory tool words before middle after opens reads writes h = tt
-reason_earlier Usage tool words before middle after opens reads writes h = absurd h
-reason_earlier (ConfigRefused file line cause) tool words before middle after opens reads writes h = absurd h
-reason_earlier SayFault tool words before middle after opens reads writes h = absurd h
-
 -- what holds of the words' job holds of the words
 pub holds_of_words : (answer : Answer) (tool : Tool) (words : List (List ℕ)) (job : Job) (before after : State) → Accepts tool words before.names job → HoldsOfJob answer job before after → Holds answer tool words before after
 holds_of_words Done tool words job before after a h = (job, a, h)
@@ -129,43 +108,16 @@ holds_of_words SayFault tool words job before after a h = absurd h
 same_file : (tool : Tool) (words : List (List ℕ)) (a b : List ℕ) → NamesFile tool words a → NamesFile tool words b → a ≡ b
 same_file tool words a b h k = let found : Some a ≡ Some b = sym h.1 ∙ k.1 in cc found
 
-same_octets : {X : Type 0} (o : Option X) (a b : X) → o ≡ Some a → o ≡ Some b → a ≡ b
-same_octets o a b h k = let found : Some a ≡ Some b = sym h ∙ k in cc found
-
--- the words and the files have one configuration
-same_text : (tool : Tool) (words : List (List ℕ)) (names : Names) (f g s t : List ℕ) → NamesFile tool words f → NamesFile tool words g → names f ≡ Some s → names g ≡ Some t → (f ≡ g) × (s ≡ t)
-same_text tool words names f g s t a b c d =
-    let file = same_file tool words f g a b in
-    (file, same_octets (names f) s t c (ap names file ∙ d))
-
--- one text is read as one configuration
-same_config : (tool : Tool) (file other text next : List ℕ) (a b : ConfigSays) → file ≡ other → text ≡ next → built_config tool file text ≡ Ok a → built_config tool other next ≡ Ok b → a ≡ b
-same_config tool file other text next a b f t h k = let both : Ok a ≡ Ok b = sym h ∙ ap₂ (built_config tool) f t ∙ k in cc both
-
--- a configuration has one job
-same_job : (some other : Job) (a b : ConfigSays) → IsJobOf some a → IsJobOf other b → a ≡ b
-    → (plugin_says some.plugin ≡ plugin_says other.plugin) × (some.as_from ≡ other.as_from) × (some.capture ≡ other.capture) × (some.audit ≡ other.audit)
-same_job some other a b h k same =
-    let plugins : plugin_says some.plugin ∷ [] ≡ plugin_says other.plugin ∷ [] = sym h.plugin ∙ ap (λ (c : ConfigSays). c.plugins) same ∙ k.plugin in
-    let captures : Some some.capture ≡ Some other.capture = sym h.capture ∙ ap (λ (c : ConfigSays). c.acct_flow_capture) same ∙ k.capture in
-    (cc plugins, sym h.as_from ∙ ap (λ (c : ConfigSays). c.nfacctd_as) same ∙ k.as_from, cc captures, sym h.audit ∙ ap (λ (c : ConfigSays). c.acct_audit_file) same ∙ k.audit)
-
 pub one_job : HaveOneJob
 one_job tool words names some other a b =
-    let same = same_text tool words names a.file b.file a.text b.text a.line b.line a.config b.config in
-    same_job some other a.names_job.config b.names_job.config a.names_job.is b.names_job.is (same_config tool a.file b.file a.text b.text _ _ same.0 same.1 a.names_job.built b.names_job.built)
+    same_job some other tool a.file names a.is_job (subst (λ (f : List ℕ). IsJob other tool f names) (sym (same_file tool words a.file b.file a.named b.named)) b.is_job)
 
 one_capture : (tool : Tool) (words : List (List ℕ)) (names : Names) (some other : Job) → Accepts tool words names some → Accepts tool words names other → some.capture ≡ other.capture
-one_capture tool words names some other a b = (one_job tool words names some other a b).2
+one_capture tool words names some other a b = let same = one_job tool words names some other a b in same.capture
 
-not_both : (tool : Tool) (words : List (List ℕ)) (names : Names) (file : List ℕ) (line : ℕ) (cause : AnyCause) (job : Job) → IsConfigRefused tool words file line cause names → Accepts tool words names job → ⊥
-not_both tool words names file line TooLong job r a =
-    let same = same_text tool words names file a.file r.text a.text r.named a.line r.there a.config in
-    omega (arith, r.refused.0, a.short, ap length same.1)
-not_both tool words names file line (Config cause) job r a =
-    let same = same_text tool words names file a.file r.text a.text r.named a.line r.there a.config in
-    let no : Err (At line cause) ≡ Ok a.names_job.config = sym r.refused.1 ∙ ap₂ (built_config tool) same.0 same.1 ∙ a.names_job.built in
-    cc no
+not_both : (tool : Tool) (words : List (List ℕ)) (names : Names) (name : List ℕ) (line : ℕ) (cause : AnyCause) (job : Job) → IsConfigRefused tool words name line cause names → Accepts tool words names job → ⊥
+not_both tool words names name line cause job r a =
+    refused_or_not job tool r.file names name line cause r.refused (subst (λ (f : List ℕ). IsJob job tool f names) (sym (same_file tool words r.file a.file r.named a.named)) a.is_job)
 
 -- a capture is whole or it isn't
 bad_or_whole : (tool : Tool) (words : List (List ℕ)) (names : Names) (some other : Job) (octets : List ℕ) → Accepts tool words names some → Accepts tool words names other → names some.capture ≡ Some octets
@@ -174,82 +126,66 @@ bad_or_whole tool words names some other octets a b there whole bad =
     let same : octets ≡ bad.0 = same_octets (names some.capture) octets bad.0 there (ap names (one_capture tool words names some other a b) ∙ bad.1) in
     bad.2 (subst IsWholeCapture same whole)
 
-same_fault : (read : Result ConfigSays ConfigFault) (line other : ℕ) (a b : ConfigCause) → read ≡ Err (At line a) → read ≡ Err (At other b) → (line ≡ other) × (a ≡ b)
-same_fault read line other a b h k = let both : Err (At line a) ≡ Err (At other b) = sym h ∙ k in (cc both, cc both)
+refused_once : (tool : Tool) (words : List (List ℕ)) (names : Names) (name other : List ℕ) (line number : ℕ) (cause reason : AnyCause) → IsConfigRefused tool words name line cause names → IsConfigRefused tool words other number reason names
+    → ConfigRefused name line cause ≡ ConfigRefused other number reason
+refused_once tool words names name other line number cause reason a b =
+    one_refusal tool a.file names name other line number cause reason a.refused
+    (subst (λ (f : List ℕ). GivesNoJob tool f names other number reason) (sym (same_file tool words a.file b.file a.named b.named)) b.refused)
 
-same_refusal : (tool : Tool) (file text : List ℕ) (line other : ℕ) (a b : AnyCause) → IsRefused tool file text line a → IsRefused tool file text other b → (line ≡ other) × (a ≡ b)
-same_refusal tool file text line other TooLong TooLong h k = (h.1 ∙ sym k.1, refl)
-same_refusal tool file text line other TooLong (Config b) h k = absurd (omega (arith, h.0, k.0))
-same_refusal tool file text line other (Config a) TooLong h k = absurd (omega (arith, h.0, k.0))
-same_refusal tool file text line other (Config a) (Config b) h k =
-    let same = same_fault (built_config tool file text) line other a b h.1 k.1 in
-    (same.0, ap Config same.1)
-
-one_refusal : (tool : Tool) (words : List (List ℕ)) (names : Names) (file other : List ℕ) (line number : ℕ) (cause reason : AnyCause) → IsConfigRefused tool words file line cause names → IsConfigRefused tool words other number reason names
-    → ConfigRefused file line cause ≡ ConfigRefused other number reason
-one_refusal tool words names file other line number cause reason a b =
-    let same = same_text tool words names file other a.text b.text a.named b.named a.there b.there in
-    let refused = same_refusal tool file a.text line number cause reason a.refused
-    (subst (λ (t : List ℕ). IsRefused tool file t number reason) (sym same.1) (subst (λ (f : List ℕ). IsRefused tool f b.text number reason) (sym same.0) b.refused)) in
-    λ i. ConfigRefused (same.0 i) (refused.0 i) (refused.1 i)
-
-none_named : (tool : Tool) (words : List (List ℕ)) (names : Names) (P : Job → Type 0) → ((file : List ℕ) → NamesFile tool words file → ⊥) → OfJob tool words names P → ⊥
-none_named tool words names P none h = none h.1.file h.1.line
-
-pub owed : (answer : Answer) (tool : Tool) (words : List (List ℕ)) (before after : State) (says_before says_after : ℕ) → Holds answer tool words before after → HasReason answer tool words before after says_before says_after
+pub owed : (answer : Answer) (tells : Bool) (tool : Tool) (words : List (List ℕ)) (before after : State) (says_before says_after : ℕ) → Holds answer tool words before after → HasReason answer tells tool words before after says_before says_after
     → IsOwed answer tool words before after says_before says_after
-owed Done tool words before after s t h r = record {
+owed Done tells tool words before after s t h r = record {
   complete = λ none whole. inl refl;
-  usage = λ none. absurd (none h.1.file h.1.line);
+  usage = λ none. absurd (none h.1.file h.1.named);
   refused = λ file line cause k. absurd (not_both tool words before.names file line cause h.0 k h.1);
   bad = λ k. absurd (bad_or_whole tool words before.names h.0 k.0 h.2.octets h.1 k.1 h.2.capture h.2.whole k.2);
 }
-owed SayFault tool words before after s t h r = record {
+owed SayFault tells tool words before after s t h r = record {
   complete = λ none whole. absurd (none.says r);
-  usage = λ none. absurd (none h.1.file h.1.line);
+  usage = λ none. absurd (none h.1.file h.1.named);
   refused = λ file line cause k. absurd (not_both tool words before.names file line cause h.0 k h.1);
   bad = λ k. absurd (bad_or_whole tool words before.names h.0 k.0 h.2.octets h.1 k.1 h.2.capture h.2.whole k.2);
 }
-owed FlowFault tool words before after s t h r = record {
+owed FlowFault tells tool words before after s t h r = record {
   complete = λ none whole. absurd (none.reads r.0 r.1);
-  usage = λ none. absurd (none h.1.file h.1.line);
+  usage = λ none. absurd (none h.1.file h.1.named);
   refused = λ file line cause k. absurd (not_both tool words before.names file line cause h.0 k h.1);
   bad = λ k. inr (inl refl);
 }
-owed (CaptureBad flows place cause) tool words before after s t h r = record {
+owed (CaptureBad flows place cause) tells tool words before after s t h r = record {
   complete = λ none whole. absurd (bad_or_whole tool words before.names whole.0 h.3.0 whole.2.0 whole.1 h.3.1 whole.2.1 whole.2.2 (h.3.2.octets, h.3.2.capture, h.3.2.bad));
-  usage = λ none. absurd (none h.3.1.file h.3.1.line);
+  usage = λ none. absurd (none h.3.1.file h.3.1.named);
   refused = λ file line c k. absurd (not_both tool words before.names file line c h.3.0 k h.3.1);
   bad = λ k. inl (λ i. CaptureBad (h.0 i) (h.1 i) (h.2 i));
 }
-owed (WriteFault name) tool words before after s t h r = record {
+owed (WriteFault name) tells tool words before after s t h r = record {
   complete = λ none whole. absurd (none.writes name r);
-  usage = λ none. absurd (none h.1.file h.1.line);
+  usage = λ none. absurd (none h.1.file h.1.named);
   refused = λ file line cause k. absurd (not_both tool words before.names file line cause h.0 k h.1);
   bad = λ k. absurd (bad_or_whole tool words before.names h.0 k.0 h.2.octets h.1 k.1 h.2.capture h.2.whole k.2);
 }
-owed (OpenFault name) tool words before after s t h r = record {
+owed (OpenFault name) tells tool words before after s t h r = record {
   complete = λ none whole. absurd (elim r [ inl o ↦ none.opens name o | inr n ↦ none.reads name n.1 ]);
-  usage = λ none. absurd (elim h [ inl n ↦ none name n.0 | inr j ↦ none j.1.file j.1.line ]);
-  refused = λ file line cause k. inr (inl (elim h [
-    | inl n ↦ ap OpenFault (same_file tool words name file n.0 k.named)
+  usage = λ none. absurd (elim h [ inl n ↦ none n.0.file n.0.named | inr j ↦ none j.1.file j.1.named ]);
+  refused = λ file line cause k. elim h [
+    | inl n ↦ inr (inl (name, n.0, refl))
     | inr j ↦ absurd (not_both tool words before.names file line cause j.0 k j.1)
-  ]));
+  ];
   bad = λ k. inr (inr (inl (name, refl)));
 }
-owed (ConfigRefused file line cause) tool words before after s t h r = record {
+owed (ConfigRefused file line cause) tells tool words before after s t h r = record {
   complete = λ none whole. absurd (not_both tool words before.names file line cause whole.0 h.0 whole.1);
-  usage = λ none. absurd (none file h.0.named);
-  refused = λ f l c k. inl (one_refusal tool words before.names file f line l cause c h.0 k);
+  usage = λ none. absurd (none h.0.file h.0.named);
+  refused = λ f l c k. inl (refused_once tool words before.names file f line l cause c h.0 k);
   bad = λ k. absurd (not_both tool words before.names file line cause k.0 h.0 k.1);
 }
-owed Usage tool words before after s t h r = record {
-  complete = λ none whole. absurd (h.0 whole.1.file whole.1.line);
+owed Usage tells tool words before after s t h r = record {
+  complete = λ none whole. absurd (h.0 whole.1.file whole.1.named);
   usage = λ none. inl refl;
-  refused = λ file line cause k. absurd (h.0 file k.named);
-  bad = λ k. absurd (h.0 k.1.file k.1.line);
+  refused = λ file line cause k. absurd (h.0 k.file k.named);
+  bad = λ k. absurd (h.0 k.1.file k.1.named);
 }
-owed NoMemory tool words before after s t h r = record {
+owed NoMemory tells tool words before after s t h r = record {
   complete = λ none whole. inr refl;
   usage = λ none. inr refl;
   refused = λ file line cause k. inr (inr refl);
@@ -266,21 +202,21 @@ said_holds answer said tool words before after s t is h =
       | inr (inr unsaid) ↦ subst (λ (a : Answer). Holds a tool words before after) (sym unsaid.1) (subst (λ (a : Answer). Holds a tool words before after) unsaid.0 h)
     ]
 
-run_reason : (answer : Answer) (tool : Tool) (words : List (List ℕ)) (before after : State) (s t : ℕ) → RunReason answer tool words before after → HasReason answer tool words before after s t
-run_reason Done tool words before after s t h = h
-run_reason Usage tool words before after s t h = h
-run_reason (ConfigRefused file line cause) tool words before after s t h = h
-run_reason (OpenFault name) tool words before after s t h = h
-run_reason FlowFault tool words before after s t h = h
-run_reason (CaptureBad flows place cause) tool words before after s t h = h
-run_reason (WriteFault name) tool words before after s t h = h
-run_reason SayFault tool words before after s t h = absurd h
-run_reason NoMemory tool words before after s t h = h
+run_reason : (answer : Answer) (tells : Bool) (tool : Tool) (words : List (List ℕ)) (before after : State) (s t : ℕ) → RunReason answer tells tool words before after → HasReason answer tells tool words before after s t
+run_reason Done tells tool words before after s t h = h
+run_reason Usage tells tool words before after s t h = h
+run_reason (ConfigRefused file line cause) tells tool words before after s t h = h
+run_reason (OpenFault name) tells tool words before after s t h = h
+run_reason FlowFault tells tool words before after s t h = h
+run_reason (CaptureBad flows place cause) tells tool words before after s t h = h
+run_reason (WriteFault name) tells tool words before after s t h = h
+run_reason SayFault tells tool words before after s t h = absurd h
+run_reason NoMemory tells tool words before after s t h = h
 
-pub said_reason : (answer said : Answer) (tool : Tool) (words : List (List ℕ)) (before after : State) (s t : ℕ) → IsSaidAs answer said s t → RunReason answer tool words before after → HasReason said tool words before after s t
-said_reason answer said tool words before after s t is h =
+pub said_reason : (answer said : Answer) (tells : Bool) (tool : Tool) (words : List (List ℕ)) (before after : State) (s t : ℕ) → IsSaidAs answer said s t → RunReason answer tells tool words before after → HasReason said tells tool words before after s t
+said_reason answer said tells tool words before after s t is h =
     elim is [
-      | inl same ↦ subst (λ (a : Answer). HasReason a tool words before after s t) (sym same) (run_reason answer tool words before after s t h)
-      | inr (inl none) ↦ subst (λ (a : Answer). HasReason a tool words before after s t) (sym none) tt
-      | inr (inr unsaid) ↦ subst (λ (a : Answer). HasReason a tool words before after s t) (sym unsaid.1) unsaid.2
+      | inl same ↦ subst (λ (a : Answer). HasReason a tells tool words before after s t) (sym same) (run_reason answer tells tool words before after s t h)
+      | inr (inl none) ↦ subst (λ (a : Answer). HasReason a tells tool words before after s t) (sym none) tt
+      | inr (inr unsaid) ↦ subst (λ (a : Answer). HasReason a tells tool words before after s t) (sym unsaid.1) unsaid.2
     ]

@@ -1,19 +1,17 @@
 -- What holds after each answer, and why it comes.
-use Rattle.std.specs.Prelude.{◌≡◌, ◌≢◌, ◌⊎◌, ◌≤◌, ◌<◌, ⊤, ℕ, true, List, ◌++◌, length, Some, Ok, Err}
+use Rattle.std.specs.Prelude.{◌≡◌, ◌≢◌, ◌⊎◌, ⊤, ℕ, Bool, true, IsTrue, List, ◌++◌, Some, Ok}
 use Rattle.outside_io.specs.Causes.{Rose}
 use Rattle.outside_io.specs.Names.{Names, Puts, old_octets}
 use Rattle.acct_top.specs.declared.answer.AnyCause.{AnyCause}
-use Rattle.acct_top.specs.declared.answer.AnyCause.TheVariants.{Config, TooLong}
 use Rattle.acct_top.specs.declared.answer.BadCause.TheVariants.{Magic}
 use Rattle.acct_top.specs.declared.answer.Answer.{Answer}
 use Rattle.acct_top.specs.declared.answer.Answer.TheVariants.{Done, Usage, ConfigRefused, OpenFault, FlowFault, CaptureBad, WriteFault, SayFault, NoMemory}
 use Rattle.acct_top.specs.declared.job.Job.{Job}
 use Rattle.acct_top.specs.Conservation.{IsAccounted, IsAccountedButFor, IsWholeCapture, flows_of}
-use Rattle.acct_top.specs.Job.{IsJob, built_config}
+use Rattle.acct_top.specs.Reading.{GivesNoJob, IsJob, IsReadFor}
 use Rattle.acct_top.specs.State.{State}
 use Rattle.config_keys.specs.ConfigViews.{plugin_says}
 use Rattle.config_keys.specs.Usage.{IsAnswer}
-use Rattle.config_keys.specs.declared.fault.ConfigFault.TheVariants.{At}
 use Rattle.config_keys.specs.declared.tool.Tool.{Tool}
 use Rattle.config_keys.specs.declared.words.Words.TheVariants as asked
 
@@ -21,27 +19,31 @@ use Rattle.config_keys.specs.declared.words.Words.TheVariants as asked
 abbrev pub NamesFile : Tool → List (List ℕ) → List ℕ → Type 0
 NamesFile tool words file = IsAnswer tool words (Ok (asked.Config file))
 
--- the most octets of a configuration
-abbrev pub MOST_CONFIG : ℕ
-MOST_CONFIG = 1048576
-
--- the words name a file with a configuration, and this is its job
+-- the words name a file, and this is its job
 pub record Accepts (tool : Tool) (words : List (List ℕ)) (names : Names) (job : Job) : Type 0 where
   pub file : List ℕ
-  pub text : List ℕ
-  pub line : NamesFile tool words file
-  pub config : names file ≡ Some text
-  pub short : length text ≤ MOST_CONFIG
-  pub names_job : IsJob job tool file text
+  pub named : NamesFile tool words file
+  pub is_job : IsJob job tool file names
 
 -- P holds of the job of the words
 abbrev pub OfJob : Tool → List (List ℕ) → Names → (Job → Type 0) → Type 0
 OfJob tool words names P = (job : Job) × Accepts tool words names job × P job
 
--- words and files have one job: whoever reads them finds the same names
+-- the jobs ask for the same
+pub record IsSameJob (some other : Job) : Type 0 where
+  pub tool : some.tool ≡ other.tool
+  pub plugin : plugin_says some.plugin ≡ plugin_says other.plugin
+  pub as_from : some.as_from ≡ other.as_from
+  pub renormalise : some.renormalise ≡ other.renormalise
+  pub tags : some.tags ≡ other.tags
+  pub samplings : some.samplings ≡ other.samplings
+  pub capture : some.capture ≡ other.capture
+  pub audit : some.audit ≡ other.audit
+
+-- words and files have one job: whoever reads them finds the same
 abbrev pub HaveOneJob : Type 0
 HaveOneJob = (tool : Tool) (words : List (List ℕ)) (names : Names) (some other : Job) → Accepts tool words names some → Accepts tool words names other
-    → (plugin_says some.plugin ≡ plugin_says other.plugin) × (some.as_from ≡ other.as_from) × (some.capture ≡ other.capture) × (some.audit ≡ other.audit)
+    → IsSameJob some other
 
 -- ---- what holds of a job
 
@@ -94,16 +96,17 @@ HoldsOfJob answer job before after = ⊥
 
 -- ---- what holds of the words
 
--- the text of a configuration is refused at this line for this cause
-abbrev pub IsRefused : Tool → List ℕ → List ℕ → ℕ → AnyCause → Type 0
-IsRefused tool file text line TooLong = (MOST_CONFIG < length text) × (line ≡ 0)
-IsRefused tool file text line (Config cause) = (length text ≤ MOST_CONFIG) × (built_config tool file text ≡ Err (At line cause))
-
-pub record IsConfigRefused (tool : Tool) (words : List (List ℕ)) (file : List ℕ) (line : ℕ) (cause : AnyCause) (names : Names) : Type 0 where
-  pub text : List ℕ
+-- the words name a file that gives no job, for this cause at this line of this name
+pub record IsConfigRefused (tool : Tool) (words : List (List ℕ)) (name : List ℕ) (line : ℕ) (cause : AnyCause) (names : Names) : Type 0 where
+  pub file : List ℕ
   pub named : NamesFile tool words file
-  pub there : names file ≡ Some text
-  pub refused : IsRefused tool file text line cause
+  pub refused : GivesNoJob tool file names name line cause
+
+-- the words name a file, and this name is read for its job
+pub record IsRead (tool : Tool) (words : List (List ℕ)) (names : Names) (name : List ℕ) : Type 0 where
+  pub file : List ℕ
+  pub named : NamesFile tool words file
+  pub read : IsReadFor tool file names name
 
 -- What holds after each answer.
 abbrev pub Holds : Answer → Tool → List (List ℕ) → State → State → Type 0
@@ -113,8 +116,8 @@ Holds FlowFault tool words before after = OfJob tool words before.names (λ job.
 Holds (CaptureBad flows place cause) tool words before after = (flows ≡ true) × (place ≡ 0) × (cause ≡ Magic) × OfJob tool words before.names (λ job. IsBadCapture job before after)
 Holds (WriteFault name) tool words before after = OfJob tool words before.names (λ job. IsUnwritten job name before after)
 Holds (OpenFault name) tool words before after =
-    (NamesFile tool words name × (after.names ≡ before.names)) ⊎ OfJob tool words before.names (λ job. IsUnopened job name before.names after.names)
-Holds (ConfigRefused file line cause) tool words before after = IsConfigRefused tool words file line cause before.names × (after.names ≡ before.names)
+    (IsRead tool words before.names name × (after.names ≡ before.names)) ⊎ OfJob tool words before.names (λ job. IsUnopened job name before.names after.names)
+Holds (ConfigRefused name line cause) tool words before after = IsConfigRefused tool words name line cause before.names × (after.names ≡ before.names)
 Holds Usage tool words before after = ((file : List ℕ) → NamesFile tool words file → ⊥) × (after.names ≡ before.names)
 Holds NoMemory tool words before after = ⊤
 
@@ -125,18 +128,20 @@ LeavesOthers tool words before after =
 
 -- ---- why an answer comes
 
--- a fault of a run is answered only where its number rose
-abbrev pub RunReason : Answer → Tool → List (List ℕ) → State → State → Type 0
-RunReason (OpenFault name) tool words before after = Rose (before.opens name) (after.opens name) ⊎ (NamesFile tool words name × Rose (before.reads name) (after.reads name))
-RunReason FlowFault tool words before after = (name : List ℕ) × Rose (before.reads name) (after.reads name)
-RunReason (WriteFault name) tool words before after = Rose (before.writes name) (after.writes name)
-RunReason SayFault tool words before after = ⊥
-RunReason answer tool words before after = ⊤
+-- A fault of a run is answered only where its number rose. A failed read is one of a name that is read for the job, where
+-- the place tells its octets.
+abbrev pub RunReason : Answer → Bool → Tool → List (List ℕ) → State → State → Type 0
+RunReason (OpenFault name) tells tool words before after =
+    Rose (before.opens name) (after.opens name) ⊎ ((IsTrue tells → IsRead tool words before.names name) × Rose (before.reads name) (after.reads name))
+RunReason FlowFault tells tool words before after = (name : List ℕ) × Rose (before.reads name) (after.reads name)
+RunReason (WriteFault name) tells tool words before after = Rose (before.writes name) (after.writes name)
+RunReason SayFault tells tool words before after = ⊥
+RunReason answer tells tool words before after = ⊤
 
 -- A fault is answered only where its number rose, that of a place or that of what the line is said to.
-abbrev pub HasReason : Answer → Tool → List (List ℕ) → State → State → ℕ → ℕ → Type 0
-HasReason SayFault tool words before after says_before says_after = Rose says_before says_after
-HasReason answer tool words before after says_before says_after = RunReason answer tool words before after
+abbrev pub HasReason : Answer → Bool → Tool → List (List ℕ) → State → State → ℕ → ℕ → Type 0
+HasReason SayFault tells tool words before after says_before says_after = Rose says_before says_after
+HasReason answer tells tool words before after says_before says_after = RunReason answer tells tool words before after
 
 -- the same of a job
 abbrev pub JobReason : Answer → State → State → Type 0

@@ -1,73 +1,47 @@
--- The audit: a line for each datagram that is refused, and a last one with what was counted.
-use Rattle.std.specs.Prelude.{ℕ, ◌+◌, List, [], ◌∷◌, ◌++◌, Ok, Err, length, flat_map, codes, decimal}
+-- The audit of a run: what is said of each datagram, and what was counted.
+use Rattle.std.specs.Prelude.{ℕ, ◌+◌, List, [], ◌∷◌, ◌++◌, Result, Ok, Err, length, map}
 use Rattle.acct_types.specs.declared.datagram.Datagram.{Datagram}
-use Rattle.netflow_in.specs.Version5.{decoded_v5}
-use Rattle.netflow_in.specs.declared.refusal.Cause.{Cause}
-use Rattle.netflow_in.specs.declared.refusal.Cause.TheVariants as cause
-use Rattle.acct_top.specs.declared.audit.Event.{Event}
-use Rattle.acct_top.specs.declared.audit.Event.TheVariants.{Refused, End}
-use Rattle.acct_top.specs.declared.audit.Totals.{Totals}
-use Rattle.acct_top.specs.Due.{records_of}
+use Rattle.flow_decode.specs.declared.decoder.Decoded.{Decoded}
+use Rattle.flow_templates.specs.declared.refusal.Cause.{Cause}
+use Rattle.out_text.specs.declared.event.Event.{Event}
+use Rattle.out_text.specs.declared.event.Event.TheVariants.{End, Notice, Refused}
+use Rattle.out_text.specs.declared.event.Totals.{Totals}
+use Rattle.out_text.specs.Events.{events_text}
+use Rattle.acct_top.specs.declared.job.Job.{Job}
+use Rattle.acct_top.specs.Due.{decoded_in, over_all, records_of}
 
--- the words of a cause
-abbrev pub cause_text : Cause → List ℕ
-cause_text cause.Short = codes "short"
-cause_text (cause.Version number) = codes "version " ++ decimal number
-cause_text cause.V5Count = codes "v5-count"
-cause_text cause.V5Cut = codes "v5-cut"
-cause_text cause.SetLength = codes "set-length"
-cause_text cause.TemplateId = codes "template-id"
-cause_text cause.TemplateCut = codes "template-cut"
-cause_text cause.TemplateEmpty = codes "template-empty"
-cause_text cause.FieldWidth = codes "field-width"
-cause_text cause.ScopeCount = codes "scope-count"
-cause_text cause.IpfixLength = codes "ipfix-length"
-cause_text cause.VarCut = codes "var-cut"
-cause_text cause.SflowAddress = codes "sflow-address"
-cause_text cause.SampleCut = codes "sample-cut"
-cause_text cause.RecordCut = codes "record-cut"
+-- its refusal alone, or its notices
+abbrev pub told : ℕ → Result Decoded Cause → List Event
+told number (Ok decoded) = map (Notice number) decoded.notices
+told number (Err cause) = Refused number cause ∷ []
 
-abbrev pub space : List ℕ
-space = 32 ∷ []
+-- the events of a datagram; the first has the number 1
+abbrev pub events_in : Job → List Datagram → Datagram → List Event
+events_in job earlier d = told (length earlier + 1) (decoded_in job earlier d)
 
--- the numbers of a run, each behind a space
-unfoldable pub totals_text : Totals → List ℕ
-totals_text totals =
-    space ++ decimal totals.datagrams ++ space ++ decimal totals.refused ++ space ++ decimal totals.records
-    ++ space ++ decimal totals.dropped ++ space ++ decimal totals.messages ++ space ++ decimal totals.closed
+abbrev pub causes_in : Result Decoded Cause → List Cause
+causes_in (Ok decoded) = []
+causes_in (Err cause) = cause ∷ []
 
--- the line of an event
-abbrev pub event_line : Event → List ℕ
-event_line (Refused datagram cause) = codes "refused " ++ decimal datagram ++ space ++ cause_text cause ++ 10 ∷ []
-event_line (End totals) = codes "end" ++ totals_text totals ++ 10 ∷ []
-
--- what the audit says of a datagram with this number
-abbrev pub refusal_of : ℕ → Datagram → List Event
-refusal_of number d = elim (decoded_v5 d.exporter d.octets) [ Ok rows ↦ [] | Err cause ↦ Refused number cause ∷ [] ]
-
--- what it says of datagrams, of which the first has this number
-abbrev pub refusals : ℕ → List Datagram → List Event
-refusals number [] = []
-refusals number (d ∷ ds) = refusal_of number d ++ refusals (number + 1) ds
+-- the cause of a datagram that is refused
+abbrev pub refusals_in : Job → List Datagram → Datagram → List Cause
+refusals_in job earlier d = causes_in (decoded_in job earlier d)
 
 -- what was counted
-abbrev pub totals_of : List Datagram → Totals
-totals_of flows = record {
+abbrev pub totals_of : Job → List Datagram → Totals
+totals_of job flows = record {
   datagrams = length flows;
-  refused = length (refusals 1 flows);
-  records = length (records_of flows);
+  refused = length (over_all (refusals_in job) flows);
+  records = length (records_of job flows);
   dropped = 0;
   messages = 0;
   closed = 0;
 }
 
 -- the events of a run
-abbrev pub audit_of : List Datagram → List Event
-audit_of flows = refusals 1 flows ++ End (totals_of flows) ∷ []
-
-abbrev pub events_text : List Event → List ℕ
-events_text events = flat_map event_line events
+abbrev pub audit_of : Job → List Datagram → List Event
+audit_of job flows = over_all (events_in job) flows ++ End (totals_of job flows) ∷ []
 
 -- the audit of a run
-abbrev pub audit_text : List Datagram → List ℕ
-audit_text flows = events_text (audit_of flows)
+abbrev pub audit_text : Job → List Datagram → List ℕ
+audit_text job flows = events_text (audit_of job flows)

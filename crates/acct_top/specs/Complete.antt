@@ -7,7 +7,7 @@ use Rattle.acct_top.specs.declared.answer.BadCause.TheVariants.{Magic}
 use Rattle.acct_top.specs.declared.answer.Answer.{Answer}
 use Rattle.acct_top.specs.declared.answer.Answer.TheVariants.{Done, Usage, ConfigRefused, OpenFault, FlowFault, CaptureBad, NoMemory}
 use Rattle.acct_top.specs.declared.job.Job.{Job}
-use Rattle.acct_top.specs.Answers.{IsConfigRefused, NamesFile, OfJob}
+use Rattle.acct_top.specs.Answers.{IsConfigRefused, IsRead, NamesFile, OfJob}
 use Rattle.acct_top.specs.Conservation.{IsWholeCapture}
 use Rattle.acct_top.specs.State.{State}
 use Rattle.config_keys.specs.declared.tool.Tool.{Tool}
@@ -29,9 +29,10 @@ pub record IsOwed (answer : Answer) (tool : Tool) (words : List (List ℕ)) (bef
   pub complete : NoneRose before after says_before says_after → OfJob tool words before.names (λ job. HasCapture before.names job IsWholeCapture) → (answer ≡ Done) ⊎ (answer ≡ NoMemory)
   -- words that name no file are answered by Usage
   pub usage : ((file : List ℕ) → NamesFile tool words file → ⊥) → (answer ≡ Usage) ⊎ (answer ≡ NoMemory)
-  -- a configuration that is refused is answered so, unless it couldn't be read
-  pub refused : (file : List ℕ) (line : ℕ) (cause : AnyCause) → IsConfigRefused tool words file line cause before.names
-      → (answer ≡ ConfigRefused file line cause) ⊎ ((answer ≡ OpenFault file) ⊎ (answer ≡ NoMemory))
+  -- a configuration or a map that is refused is answered so, unless it or one that is read before couldn't be read
+  pub refused : (name : List ℕ) (line : ℕ) (cause : AnyCause) → IsConfigRefused tool words name line cause before.names
+      → (answer ≡ ConfigRefused name line cause)
+      ⊎ (((unread : List ℕ) × IsRead tool words before.names unread × (answer ≡ OpenFault unread)) ⊎ (answer ≡ NoMemory))
   -- a capture that isn't whole is answered so, unless an open or a read failed
   pub bad : OfJob tool words before.names (λ job. HasCapture before.names job (λ octets. IsWholeCapture octets → ⊥))
       → (answer ≡ CaptureBad true 0 Magic) ⊎ ((answer ≡ FlowFault) ⊎ (((name : List ℕ) × (answer ≡ OpenFault name)) ⊎ (answer ≡ NoMemory)))

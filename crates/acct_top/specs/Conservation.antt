@@ -36,7 +36,7 @@ KeepsOthers job before after = (name : List ℕ) → name ≢ job.plugin.file �
 -- The outputs hold the texts of these datagrams, whole.
 pub record IsAccounted (job : Job) (flows : List Datagram) (before after : Names) : Type 0 where
   -- the audit holds its text alone
-  pub audit : after job.audit ≡ Some (audit_text flows)
+  pub audit : after job.audit ≡ Some (audit_text job flows)
   pub rows : List (List Cell × Counts)
   pub purge : IsPurge (due job flows) rows
   -- the output holds its old octets, and then the text of the purge
@@ -55,7 +55,7 @@ pub record HoldsText (risen : Type 0) (start text : List ℕ) (octets : Option (
 
 -- The same, but for the outputs whose number of write faults rose.
 pub record IsAccountedButFor (job : Job) (flows : List Datagram) (before after : State) : Type 0 where
-  pub audit : HoldsText (Rose (before.writes job.audit) (after.writes job.audit)) [] (audit_text flows) (after.names job.audit)
+  pub audit : HoldsText (Rose (before.writes job.audit) (after.writes job.audit)) [] (audit_text job flows) (after.names job.audit)
   pub rows : List (List Cell × Counts)
   pub purge : IsPurge (due job flows) rows
   pub output : HoldsText (Rose (before.writes job.plugin.file) (after.writes job.plugin.file)) (old_octets before.names job.plugin.file) (rows_text job rows) (after.names job.plugin.file)

@@ -1,10 +1,11 @@
 -- The job that a configuration gives, and what of configurations isn't built yet.
-use Rattle.std.specs.Prelude.{◌≡◌, ℕ, ◌||◌, Bool, true, false, not, List, [], ◌∷◌, Option, Some, None, is_none, is_some, Result, Ok, Err, if◌then◌else◌}
+use Rattle.std.specs.Prelude.{◌≡◌, ℕ, ◌||◌, Bool, true, false, not, List, [], ◌∷◌, Option, Some, None, is_some, Result, Ok, Err, if◌then◌else◌}
+use Rattle.acct_types.specs.declared.choice.AsFrom.{AsFrom}
 use Rattle.config_keys.specs.ConfigViews.{plugin_says}
 use Rattle.config_keys.specs.Lines.{is_among}
 use Rattle.config_keys.specs.Reading.{ConfigSays, PluginSays, config_of, output_names}
 use Rattle.config_keys.specs.declared.fault.ConfigCause.{ConfigCause}
-use Rattle.config_keys.specs.declared.fault.ConfigCause.TheVariants.{MissingKey, NotInProfile, SameName}
+use Rattle.config_keys.specs.declared.fault.ConfigCause.TheVariants.{NotInProfile, SameName}
 use Rattle.config_keys.specs.declared.fault.ConfigFault.{ConfigFault}
 use Rattle.config_keys.specs.declared.fault.ConfigFault.TheVariants.{At}
 use Rattle.config_keys.specs.declared.tool.Tool.{Tool}
@@ -12,13 +13,18 @@ use Rattle.config_keys.specs.declared.tool.Tool.TheVariants.{Nfacctd, Sfacctd, P
 use Rattle.config_keys.specs.declared.value.PluginKind.{PluginKind}
 use Rattle.config_keys.specs.declared.value.PluginKind.TheVariants.{Print, Memory}
 use Rattle.acct_top.specs.declared.job.Job.{Job}
-use Rattle.acct_top.specs.declared.read_job.Refusal.{Refusal}
-use Rattle.acct_top.specs.declared.read_job.Refusal.TheVariants as refusal
 
-abbrev pub is_nfacctd : Tool → Bool
-is_nfacctd Nfacctd = true
-is_nfacctd Sfacctd = false
-is_nfacctd Pmbgpd = false
+abbrev pub collects : Tool → Bool
+collects Nfacctd = true
+collects Sfacctd = true
+collects Pmbgpd = false
+
+-- what the tool's own keys say
+abbrev pub as_of : ConfigSays → AsFrom
+as_of config = elim config.tool [ Sfacctd ↦ config.sfacctd_as | Nfacctd ↦ config.nfacctd_as | Pmbgpd ↦ config.nfacctd_as ]
+
+abbrev pub renormalises : ConfigSays → Bool
+renormalises config = elim config.tool [ Sfacctd ↦ config.sfacctd_renormalize | Nfacctd ↦ config.nfacctd_renormalize | Pmbgpd ↦ config.nfacctd_renormalize ]
 
 abbrev pub prints : PluginKind → Bool
 prints Print = true
@@ -29,20 +35,17 @@ is_one_print [] = false
 is_one_print (plugin ∷ []) = prints plugin.kind
 is_one_print (plugin ∷ next ∷ plugins) = false
 
--- Something that a configuration asks for isn't built yet: another tool than nfacctd, renormalising, a map, other plugins
--- than one that prints, routes.
+-- Something that a configuration asks for isn't built yet: pmbgpd, other plugins than one that prints, routes.
 abbrev pub is_unbuilt : ConfigSays → Bool
 is_unbuilt config =
-    not (is_nfacctd config.tool) || config.nfacctd_renormalize || is_some config.pre_tag_map || is_some config.sampling_map
-    || not (is_one_print config.plugins) || config.bgp_daemon || config.bmp_daemon || is_some config.bgp_agent_map
+    not (collects config.tool) || not (is_one_print config.plugins) || config.bgp_daemon || config.bmp_daemon || is_some config.bgp_agent_map
 
--- What is wrong with an accepted configuration in a file, at no line: something isn't built yet, an output has the file's
--- name, or there is no capture to replay.
+-- What is wrong with an accepted configuration in a file, at no line, before its maps are read: something isn't built
+-- yet, or an output has the file's name.
 abbrev pub refusal_of : List ℕ → ConfigSays → Option ConfigCause
 refusal_of file config =
     if is_unbuilt config then Some NotInProfile
-    else (if is_among (output_names config) file then Some SameName
-    else (if is_none config.acct_flow_capture then Some MissingKey else None))
+    else (if is_among (output_names config) file then Some SameName else None)
 
 abbrev pub unless_refused : Option ConfigCause → ConfigSays → Result ConfigSays ConfigFault
 unless_refused None config = Ok config
@@ -56,20 +59,11 @@ built_from file (Ok config) = unless_refused (refusal_of file config) config
 abbrev pub built_config : Tool → List ℕ → List ℕ → Result ConfigSays ConfigFault
 built_config tool file text = built_from file (config_of tool text)
 
--- the job is that of a configuration
+-- the job is that of a configuration, whatever its maps say
 pub record IsJobOf (job : Job) (config : ConfigSays) : Type 0 where
+  pub tool : config.tool ≡ job.tool
   pub plugin : config.plugins ≡ plugin_says job.plugin ∷ []
-  pub as_from : config.nfacctd_as ≡ job.as_from
+  pub as_from : as_of config ≡ job.as_from
+  pub renormalise : renormalises config ≡ job.renormalise
   pub capture : config.acct_flow_capture ≡ Some job.capture
   pub audit : config.acct_audit_file ≡ job.audit
-
--- the text of a file gives this job
-pub record IsJob (job : Job) (tool : Tool) (file text : List ℕ) : Type 0 where
-  pub config : ConfigSays
-  pub built : built_config tool file text ≡ Ok config
-  pub is : IsJobOf job config
-
--- why a file gives no job, unless memory ran out
-abbrev pub RefusalIs : Refusal → Result ConfigSays ConfigFault → Type 0
-RefusalIs (refusal.At line cause) said = said ≡ Err (At line cause)
-RefusalIs refusal.NoMemory said = Unit {0}

@@ -7,6 +7,7 @@ pub mod Counting
 pub mod Due
 pub mod Job
 pub mod Output
+pub mod Reading
 pub mod Run
 pub mod Said
 pub mod Say

@@ -24,7 +24,7 @@ pub record AreBegun (job : Job) (before after : Names) : Type 0 where
 -- these are the texts of datagrams
 pub record AreTextsOf (job : Job) (flows : List Datagram) (texts : Texts) : Type 0 where
   pub output : IsPurgeText job (due job flows) texts.output
-  pub audit : texts.audit ≡ audit_text flows
+  pub audit : texts.audit ≡ audit_text job flows
 
 -- a name couldn't be opened, or memory ran out
 abbrev pub IsFaultOf : Job → Answer → Names → Names → Type 0

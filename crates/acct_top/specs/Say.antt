@@ -4,10 +4,11 @@ use Rattle.std.specs.Io.KnownBytes.{append_known}
 use Rattle.outside_io.specs.Causes.{Rose}
 use Rattle.outside_io.specs.Octets.{WritesFront}
 use Rattle.config_keys.specs.Causes as config
+use Rattle.pretag_map.specs.Causes as map
 use Rattle.config_keys.specs.declared.tool.Tool.{Tool}
 use Rattle.config_keys.specs.declared.tool.Tool.TheVariants.{Nfacctd, Sfacctd, Pmbgpd}
 use Rattle.acct_top.specs.declared.answer.AnyCause.{AnyCause}
-use Rattle.acct_top.specs.declared.answer.AnyCause.TheVariants.{Config, TooLong}
+use Rattle.acct_top.specs.declared.answer.AnyCause.TheVariants.{Config, Map, TooLong}
 use Rattle.acct_top.specs.declared.answer.Answer.{Answer}
 use Rattle.acct_top.specs.declared.answer.Answer.TheVariants.{Done, Usage, ConfigRefused, OpenFault, FlowFault, CaptureBad, WriteFault, SayFault, NoMemory}
 
@@ -23,6 +24,7 @@ usage_line Pmbgpd = codes "usage: pmbgpd -f FILE" ++ 10 ∷ []
 
 abbrev pub cause_text : AnyCause → List ℕ
 cause_text (Config cause) = config.cause_text cause
+cause_text (Map cause) = map.cause_text cause
 cause_text TooLong = codes "too-long"
 
 abbrev pub side_text : Bool → List ℕ

@@ -1,5 +1,5 @@
 -- What a place tells, and its numbers of faults.
-use Rattle.std.specs.Prelude.{ℕ, ◌≤◌, List}
+use Rattle.std.specs.Prelude.{◌≡◌, ℕ, ◌≤◌, List}
 use Rattle.outside_io.specs.Names.{Names}
 
 -- the octets of each name, those that were taken of it, and how often opening, reading and writing it failed
@@ -18,3 +18,9 @@ pub record NoneFell (before after : State) : Type 0 where
   pub opens : (name : List ℕ) → before.opens name ≤ after.opens name
   pub reads : (name : List ℕ) → before.reads name ≤ after.reads name
   pub writes : (name : List ℕ) → before.writes name ≤ after.writes name
+
+-- no number of faults fell, and no name was written to
+pub record OnlyRead (before after : State) : Type 0 where
+  pub opens : (name : List ℕ) → before.opens name ≤ after.opens name
+  pub reads : (name : List ℕ) → before.reads name ≤ after.reads name
+  pub writes : after.writes ≡ before.writes

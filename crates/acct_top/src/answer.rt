@@ -3,11 +3,15 @@ ghost use Rattle.acct_top.specs.Status.{status_of};
 
 use acct_types::Text;
 use config_keys::ConfigCause;
+use pretag_map::MapCause;
 
 /// Why a file is refused.
 #[derive(Clone, Copy, Debug, PartialEq, Eq)]
 pub enum AnyCause {
+    /// A configuration has this cause.
     Config(ConfigCause),
+    /// A map has this cause.
+    Map(MapCause),
     /// The file has more than 1,048,576 octets.
     TooLong,
 }
@@ -25,13 +29,13 @@ pub enum Answer {
     Done,
     /// The words aren't those of the program.
     Usage,
-    /// The file has this cause at this line, from 1, or at no line, which is 0.
+    /// The configuration or the map in this file has this cause at this line, from 1, or at no line, which is 0.
     ConfigRefused {
         file: Text,
         line: u32,
         cause: AnyCause,
     },
-    /// The name couldn't be opened, or the configuration couldn't be read.
+    /// The name couldn't be opened, or is that of a configuration or a map that couldn't be read.
     OpenFault {
         name: Text,
     },

@@ -1,20 +1,27 @@
-ghost use Rattle.std.specs.Prelude.{◌≡◌, ◌+◌, ◌-◌, ◌*◌, ◌<◌, ◌≤◌, ◌^◌, ◌++◌, [], length, IfOk, OnOk, All};
+ghost use Rattle.std.specs.Prelude.{◌≡◌, ◌+◌, ◌<◌, ◌≤◌, ◌^◌, ◌++◌, ◌∷◌, [], List as Sequence, length, map, option_map, option_and_then, IfOk, IfSome, OnOk, All, true};
 ghost use Rattle.acct_types.specs.Counts.{IsBelow};
-ghost use Rattle.acct_top.specs.Audit.{events_text, refusal_of, refusals, totals_of, audit_text};
-ghost use Rattle.acct_top.specs.Counting.{IsBounded};
-ghost use Rattle.acct_top.specs.Account.{CountsOneMore, CountsAll};
-ghost use Rattle.acct_top.specs.Due.{due, entries_in, entries_of, key_in, window_start};
-ghost use Rattle.acct_top.specs.Output.{IsPurgeText};
+ghost use Rattle.acct_types.specs.declared.datagram.Datagram.{Datagram};
+ghost use Rattle.capture_file.specs.Laws.{FitIn};
+ghost use Rattle.flow_decode.specs.History.{Knows};
+ghost use Rattle.out_text.specs.declared.event.Event.TheVariants as event;
+ghost use Rattle.out_text.specs.Events.{events_text};
 ghost use Rattle.plugin_cache.specs.Sums.{all_added};
+ghost use Rattle.pretag_map.specs.Labels.{is_label};
+ghost use Rattle.pretag_map.specs.TagRules.{label_at};
+ghost use Rattle.acct_top.specs.Account.{CountsAll, CountsOneMore, Serves};
+ghost use Rattle.acct_top.specs.Audit.{audit_text};
+ghost use Rattle.acct_top.specs.Counting.{IsBounded};
+ghost use Rattle.acct_top.specs.Due.{due, entries_of, key_in, tags_in, window_start};
+ghost use Rattle.acct_top.specs.Output.{IsPurgeText};
 
-use crate::audit::push_event;
-use crate::{Event, Job, Totals};
-use acct_types::{Datagram, FlowRecord, Key, List, NoMemory, Octets, Purge};
-use netflow_in::{RawRecord, Undecodable, decode_v5};
-use out_text::purge_text;
+use crate::Job;
+use acct_types::{Datagram, FlowRecord, Key, List, NoMemory, Octets, Purge, Text};
+use flow_decode::{Decoder, FeedFault};
+use flow_templates::Notice;
+use out_text::{Event, Totals, event_text, purge_text};
 use plugin_cache::{Aggregate, entries_add_up};
-use pretag_map::Tags;
-use primitive_keys::key_of;
+use pretag_map::{TagMap, Tags};
+use primitive_keys::{facts, key_of};
 use std::alloc::Global;
 
 /// The texts of a run: the purge of the plugin, and the audit.
@@ -32,15 +39,25 @@ fn window_start(job: &Job, moment: u64) -> u64
     moment / length * length
 }
 
+fn tags_in(job: &Job, flow: &FlowRecord) -> Tags
+    ensures { result ≡ tags_in job.now flow.now }
+{
+    job.tags.tag(&facts(flow, job.as_from, None, None))
+}
+
+// The label of the rule that tags name, if they name one.
+fn label_of(map: &TagMap, rule: Option<u32>) -> Option<&Text>
+    ensures value { option_map (λ words. words.now) result ≡ option_and_then (label_at map.now) rule }
+    ensures good { IfSome result (λ words. is_label words.now ≡ true) }
+{
+    map.label(rule?)
+}
+
 // What a record is counted under.
 fn key_in(alloc: Global, job: &Job, window: u64, flow: &FlowRecord) -> Result<Key, NoMemory>
     ensures { IfOk result (λ key. key ≡ key_in job.now window flow.now) }
 {
-    let tags = Tags {
-        tag: 0,
-        tag2: 0,
-        label: None,
-    };
+    let tags = tags_in(job, flow);
     key_of(
         alloc,
         &job.plugin.primitives,
@@ -49,7 +66,7 @@ fn key_in(alloc: Global, job: &Job, window: u64, flow: &FlowRecord) -> Result<Ke
         None,
         None,
         &tags,
-        None,
+        label_of(&job.tags, tags.label),
         window,
     )
 }
@@ -61,19 +78,33 @@ fn add_rows(
     sums: &mut Aggregate,
     counted: u64,
     moment: u64,
-    rows: &[RawRecord],
+    rows: &[FlowRecord],
 ) -> Result<(), NoMemory>
-    requires small { All (λ row. IsBelow (2 ^ 64) row.flow.counts) rows.now }
+    requires small { All (λ flow. IsBelow (2 ^ 96) flow.counts) rows.now }
     requires bounded { IsBounded sums.old counted }
-    requires room { counted + length rows.now < 2 ^ 48 }
+    requires room { counted + length rows.now ≤ 2 ^ 32 }
     ensures ok { OnOk result (sums.new ≡ all_added sums.old (entries_of job.now moment rows.now)) }
     ensures bounded { OnOk result (IsBounded sums.new (counted + length rows.now)) }
 {
     entries_add_up();
     let window = window_start(job, moment);
-    for row in rows {
-        let key = key_in(alloc, job, window, &row.flow)?;
-        sums.add(key, row.flow.counts)?;
+    for flow in rows {
+        let key = key_in(alloc, job, window, flow)?;
+        sums.add(key, flow.counts)?;
+    }
+    Ok(())
+}
+
+// Appends the notices of the datagram with this number.
+fn append_notices(audit: &mut Octets, number: u64, notices: &[Notice]) -> Result<(), NoMemory>
+    ensures { OnOk result (audit.new ≡ audit.old ++ events_text (map (event.Notice number) notices.now)) }
+{
+    for notice in notices {
+        let event = Event::Notice {
+            datagram: number,
+            notice: *notice,
+        };
+        event_text(&event, audit)?;
     }
     Ok(())
 }
@@ -81,6 +112,7 @@ fn add_rows(
 /// What was counted of the datagrams so far.
 #[derive(Drop)]
 struct Account {
+    decoder: Decoder,
     sums: Aggregate,
     audit: Octets,
     records: u64,
@@ -95,14 +127,17 @@ fn count_datagram(
     number: u64,
     datagram: &Datagram,
 ) -> Result<(), NoMemory>
-    requires number { number < 2 ^ 40 }
-    requires records { account.old.records ≤ 30 * (number - 1) }
+    requires fits { length datagram.now.octets ≤ 65535 }
+    requires records { account.old.records + length datagram.now.octets ≤ 2 ^ 32 }
     requires refused { account.old.refused < 2 ^ 40 }
     requires bounded { IsBounded account.old.sums account.old.records }
-    ensures { OnOk result (CountsOneMore job.now account.old account.new number datagram.now) }
+    requires serves { Serves job.now account.old }
+    ensures { (earlier : Sequence Datagram) → number ≡ length earlier + 1 → Knows account.old.decoder earlier
+        → OnOk result (CountsOneMore job.now account.old account.new earlier datagram.now) }
 {
-    match decode_v5(alloc, &datagram.exporter, datagram.octets.as_slice()) {
+    match account.decoder.feed(datagram, &job.samplings) {
         Ok(decoded) => {
+            append_notices(&mut account.audit, number, decoded.notices.as_slice())?;
             add_rows(
                 alloc,
                 job,
@@ -114,26 +149,28 @@ fn count_datagram(
             account.records += decoded.rows.len() as u64;
             Ok(())
         }
-        Err(Undecodable::Refused(cause)) => {
+        Err(FeedFault::Refused(cause)) => {
             let event = Event::Refused {
                 datagram: number,
                 cause,
             };
-            push_event(&mut account.audit, &event)?;
+            event_text(&event, &mut account.audit)?;
             account.refused += 1;
             Ok(())
         }
-        Err(Undecodable::NoMemory) => Err(NoMemory),
+        Err(FeedFault::NoMemory) => Err(NoMemory),
     }
 }
 
 // Counts all datagrams.
 fn count_datagrams(alloc: Global, job: &Job, datagrams: &[Datagram]) -> Result<Account, NoMemory>
-    requires { length datagrams.now < 2 ^ 40 }
+    requires few { length datagrams.now < 2 ^ 40 }
+    requires fits { FitIn (2 ^ 32) datagrams.now }
     ensures { IfOk result (λ account. CountsAll job.now account datagrams.now) }
 {
     entries_add_up();
     let mut account = Account {
+        decoder: Decoder::new(alloc, job.tool, job.renormalise),
         sums: Aggregate::new(alloc),
         audit: Octets::new(alloc),
         records: 0,
@@ -147,12 +184,14 @@ fn count_datagrams(alloc: Global, job: &Job, datagrams: &[Datagram]) -> Result<A
 
 /// The texts of a run over these datagrams.
 pub fn run_texts(alloc: Global, job: &Job, datagrams: &[Datagram]) -> Result<Texts, NoMemory>
-    requires { length datagrams.now < 2 ^ 40 }
+    requires few { length datagrams.now < 2 ^ 40 }
+    requires fits { FitIn (2 ^ 32) datagrams.now }
     ensures output { IfOk result (λ texts. IsPurgeText job.now (due job.now datagrams.now) texts.output) }
-    ensures audit { IfOk result (λ texts. texts.audit ≡ audit_text datagrams.now) }
+    ensures audit { IfOk result (λ texts. texts.audit ≡ audit_text job.now datagrams.now) }
 {
     entries_add_up();
     let Account {
+        decoder: _,
         sums,
         mut audit,
         records,
@@ -166,7 +205,7 @@ pub fn run_texts(alloc: Global, job: &Job, datagrams: &[Datagram]) -> Result<Tex
         messages: 0,
         closed: 0,
     };
-    push_event(&mut audit, &Event::End(totals))?;
+    event_text(&Event::End(totals), &mut audit)?;
     let rows = sums.into_rows(alloc)?;
     let purge = Purge { window: 0, rows };
     let mut output = Octets::new(alloc);

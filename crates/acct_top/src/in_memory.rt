@@ -1,4 +1,4 @@
-ghost use Rattle.std.specs.Prelude.{map, string_bytes, Some};
+ghost use Rattle.std.specs.Prelude.{true, map, string_bytes, Some};
 ghost use Rattle.outside_io.specs.Memory.{sink_faults, sink_held};
 ghost use Rattle.outside_io.specs.MemoryPlace.{place_names, place_open_faults, place_read_faults, place_taken, place_write_faults};
 ghost use Rattle.acct_top.specs.Answers.{HasReason, Holds, LeavesOthers};
@@ -34,7 +34,7 @@ pub fn account_in_memory(
     ensures others { LeavesOthers tool (map string_bytes words.now) (place_names place.old) (place_names place.new) }
 
     // A fault is answered only where its number rose.
-    ensures reason { HasReason result tool (map string_bytes words.now)
+    ensures reason { HasReason result true tool (map string_bytes words.now)
         (state_of place_names place_taken place_open_faults place_read_faults place_write_faults place.old)
         (state_of place_names place_taken place_open_faults place_read_faults place_write_faults place.new)
         (sink_faults say.old) (sink_faults say.new) }

@@ -2,20 +2,24 @@
 #![tactic(auto)]
 
 mod answer;
-mod audit;
 mod count;
 mod in_memory;
 mod job;
 mod read_job;
+mod read_map;
+mod read_text;
 mod run;
 mod say;
 mod top;
 
 pub use answer::{Answer, AnyCause, BadCause, status};
-pub use audit::{Event, Totals, push_event};
 pub use in_memory::account_in_memory;
 pub use job::Job;
 pub use top::{account_alone, one_job};
 
+#[cfg(test)]
+mod map_tests;
+#[cfg(test)]
+mod protocol_tests;
 #[cfg(test)]
 mod tests;

@@ -1,24 +1,43 @@
 //! The job that a configuration gives.
 
-ghost use Rattle.std.specs.Prelude.{◌≡◌, ◌≤◌, false, length, map, Some, None, IfOk, IfErr};
-ghost use Rattle.config_keys.specs.ConfigViews.{plugin_says, says};
+ghost use Rattle.std.specs.Prelude.{◌≡◌, ◌≤◌, false, length, map, None, IfOk, IfSome, IfNone};
+ghost use Rattle.config_keys.specs.ConfigViews.{IsReading, plugin_says, says};
 ghost use Rattle.config_keys.specs.Reading.{shares_name};
-ghost use Rattle.acct_top.specs.Job.{IsJob, IsJobOf, RefusalIs, built_config, is_nfacctd, is_one_print, is_unbuilt, prints, refusal_of};
+ghost use Rattle.acct_top.specs.Job.{IsJobOf, as_of, built_config, collects, is_one_print, is_unbuilt, prints, renormalises};
 
 use crate::Job;
-use acct_types::Text;
+use acct_types::{AsFrom, Text};
 use config_keys::{
     Config, ConfigCause, ConfigFault, PluginConfig, PluginKind, Tool, has_output, read_config,
 };
+use pretag_map::{SamplingMap, TagMap};
 use std::alloc::Global;
 
-fn is_nfacctd(tool: Tool) -> bool
-    ensures { result ≡ is_nfacctd tool }
+fn collects(tool: Tool) -> bool
+    ensures { result ≡ collects tool }
 {
     match tool {
         Tool::Nfacctd => true,
-        Tool::Sfacctd => false,
+        Tool::Sfacctd => true,
         Tool::Pmbgpd => false,
+    }
+}
+
+fn as_of(config: &Config) -> AsFrom
+    ensures { result ≡ as_of (says config.now) }
+{
+    match config.tool {
+        Tool::Sfacctd => config.sfacctd_as,
+        Tool::Nfacctd | Tool::Pmbgpd => config.nfacctd_as,
+    }
+}
+
+fn renormalises(config: &Config) -> bool
+    ensures { result ≡ renormalises (says config.now) }
+{
+    match config.tool {
+        Tool::Sfacctd => config.sfacctd_renormalize,
+        Tool::Nfacctd | Tool::Pmbgpd => config.nfacctd_renormalize,
     }
 }
 
@@ -44,64 +63,68 @@ fn is_one_print(plugins: &[PluginConfig]) -> bool
 fn is_unbuilt(config: &Config) -> bool
     ensures { result ≡ is_unbuilt (says config.now) }
 {
-    !is_nfacctd(config.tool)
-        || config.nfacctd_renormalize
-        || config.pre_tag_map.is_some()
-        || config.sampling_map.is_some()
+    !collects(config.tool)
         || !is_one_print(config.plugins.as_slice())
         || config.bgp_daemon
         || config.bmp_daemon
         || config.bgp_agent_map.is_some()
 }
 
-/// The job of an accepted configuration in a file, or what is wrong with it at no line.
-pub fn job_of(file: &Text, config: Config) -> Result<Job, ConfigCause>
-    requires { shares_name (says config) ≡ false }
-    ensures job { IfOk result (λ job. (refusal_of file.now (says config) ≡ None) × IsJobOf job (says config)) }
-    ensures refused { IfErr result (λ cause. refusal_of file.now (says config) ≡ Some cause) }
+fn at_no_line(cause: ConfigCause) -> ConfigFault
+    ensures { result ≡ ConfigFault.At 0 cause }
 {
+    ConfigFault::At { line: 0, cause }
+}
+
+/// The configuration in the text of a file, as far as it is judged before its maps are read.
+pub fn read_built(
+    alloc: Global,
+    tool: Tool,
+    file: &Text,
+    text: &[u8],
+) -> Result<Config, ConfigFault>
+    requires { length text.now ≤ 1048576 }
+    ensures config { IsReading result (built_config tool file.now text.now) }
+    ensures built { IfOk result (λ config. is_unbuilt (says config) ≡ false) }
+    ensures apart { IfOk result (λ config. shares_name (says config) ≡ false) }
+{
+    let config = read_config(alloc, tool, text)?;
     if is_unbuilt(&config) {
-        return Err(ConfigCause::NotInProfile);
+        return Err(at_no_line(ConfigCause::NotInProfile));
     }
     if has_output(&config, file.as_slice()) {
-        return Err(ConfigCause::SameName);
+        return Err(at_no_line(ConfigCause::SameName));
     }
-    let as_from = config.nfacctd_as;
+    Ok(config)
+}
+
+/// The job of a configuration and of what its maps say, where there is a capture to replay.
+pub fn job_of(config: Config, tags: TagMap, samplings: SamplingMap) -> Option<Job>
+    requires built { is_unbuilt (says config) ≡ false }
+    requires apart { shares_name (says config) ≡ false }
+    ensures job { IfSome result (λ job. IsJobOf job (says config)) }
+    ensures tags { IfSome result (λ job. job.tags ≡ tags) }
+    ensures samplings { IfSome result (λ job. job.samplings ≡ samplings) }
+    ensures none { IfNone result (config.acct_flow_capture ≡ None) }
+{
+    let tool = config.tool;
+    let as_from = as_of(&config);
+    let renormalise = renormalises(&config);
     let mut plugins = config.plugins;
     let capture = config.acct_flow_capture;
     let audit = config.acct_audit_file;
     let Some(capture) = capture else {
-        return Err(ConfigCause::MissingKey);
+        return None;
     };
     let plugin = plugins.pop().unwrap();
-    Ok(Job {
+    Some(Job {
+        tool,
         plugin,
         as_from,
+        renormalise,
+        tags,
+        samplings,
         capture,
         audit,
     })
-}
-
-/// Why a file gives no job.
-#[derive(Clone, Copy)]
-pub enum Refusal {
-    At { line: u32, cause: ConfigCause },
-    NoMemory,
-}
-
-/// The job that the text of a file gives.
-pub fn read_job(alloc: Global, tool: Tool, file: &Text, text: &[u8]) -> Result<Job, Refusal>
-    requires { length text.now ≤ 1048576 }
-    ensures job { IfOk result (λ job. IsJob job tool file.now text.now) }
-    ensures refused { IfErr result (λ refusal. RefusalIs refusal (built_config tool file.now text.now)) }
-{
-    let config = match read_config(alloc, tool, text) {
-        Ok(config) => config,
-        Err(ConfigFault::At { line, cause }) => return Err(Refusal::At { line, cause }),
-        Err(ConfigFault::NoMemory) => return Err(Refusal::NoMemory),
-    };
-    match job_of(file, config) {
-        Ok(job) => Ok(job),
-        Err(cause) => Err(Refusal::At { line: 0, cause }),
-    }
 }

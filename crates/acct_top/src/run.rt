@@ -9,6 +9,7 @@ ghost use Rattle.acct_top.specs.State.{state_of, NoneFell};
 use crate::count::{Texts, run_texts};
 use crate::{Answer, BadCause, Job};
 use acct_types::{NoMemory, Octets, Text};
+use capture_file::laws::datagrams_fit_the_limit;
 use capture_file::{CaptureEnd, split_flows};
 use outside_io::{Begin, IoFault, Place, ReadOctets, read_all, write_all};
 use plugin_cache::purges_conserve;
@@ -176,6 +177,7 @@ fn count_capture(alloc: Global, job: &Job, octets: &[u8]) -> Result<Counted, NoM
     ensures texts { IfOk result (λ counted. AreTextsOf job.now (flows_of octets.now) counted.texts) }
     ensures whole { IfOk result (λ counted. IsTrue counted.whole ↔ IsWholeCapture octets.now) }
 {
+    datagrams_fit_the_limit();
     let capture = split_flows(alloc, octets, MOST_EVENTS)?;
     let whole = octets.len() < MOST_CAPTURE && capture.end == CaptureEnd::Ended;
     let texts = run_texts(alloc, job, capture.datagrams.as_slice())?;

@@ -4,9 +4,8 @@ ghost use Rattle.acct_top.specs.Say.{answer_line, answer_text, cause_text, side_
 ghost use Rattle.acct_top.specs.Said.{IsSaidAs};
 
 use crate::{Answer, AnyCause};
-use acct_types::{NoMemory, Octets, Text};
+use acct_types::{NoMemory, Octets, Text, append_decimal};
 use config_keys::Tool;
-use itoa::{Buffer, Integer};
 use outside_io::{IoFault, Sink, write_all};
 use std::alloc::Global;
 
@@ -36,15 +35,9 @@ fn cause_text<'a>(cause: AnyCause) -> &'a [u8]
 {
     match cause {
         AnyCause::Config(cause) => cause.text().as_bytes(),
+        AnyCause::Map(cause) => cause.text().as_bytes(),
         AnyCause::TooLong => b"too-long",
     }
-}
-
-fn push_number<I: Integer>(out: &mut Octets, number: I) -> Result<(), NoMemory>
-    ensures { OnOk result (out.new ≡ out.old ++ I.text number) }
-{
-    let mut buffer = Buffer::new();
-    out.extend(buffer.format(number).as_bytes())
 }
 
 fn push_name(out: &mut Octets, head: &[u8], name: &Text) -> Result<(), NoMemory>
@@ -64,7 +57,7 @@ fn push_answer(out: &mut Octets, answer: &Answer) -> Result<(), NoMemory>
         Answer::ConfigRefused { file, line, cause } => {
             out.extend(file.as_slice())?;
             out.extend(b":")?;
-            push_number(out, *line)?;
+            append_decimal(*line, out)?;
             out.extend(b": ")?;
             out.extend(cause_text(*cause))
         }
@@ -77,7 +70,7 @@ fn push_answer(out: &mut Octets, answer: &Answer) -> Result<(), NoMemory>
         } => {
             out.extend(if *flows { b"flow".as_slice() } else { b"route" })?;
             out.extend(b" capture bad at ")?;
-            push_number(out, *place)?;
+            append_decimal(*place, out)?;
             out.extend(b": magic")
         }
         Answer::WriteFault { name } => push_name(out, b"cannot write ", name),

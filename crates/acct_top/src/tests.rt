@@ -49,7 +49,7 @@ const THIRTY: &[u8] = b"\0\x05\0\x1e";
 
 const THIRTY_ONE: &[u8] = b"\0\x05\0\x1f";
 
-const VERSION_9: &[u8] = b"\0\x09\0\0\0\0\0\0\0\0\0\0\0\0\0\0\0\0\0\0";
+const VERSION_7: &[u8] = b"\0\x07\0\0\0\0\0\0\0\0\0\0\0\0\0\0\0\0\0\0";
 
 const REST: &[u8] = b"\0\0\0\0\0\0\0\0\0\0\0\0\0\0\0\0\0\0\0\0";
 
@@ -364,11 +364,11 @@ fn each_record_is_counted_once(rt: HostRuntime) -> Result<(), Fail> {
         ),
         (
             Before {
-                capture: Some(&[(1, MAGIC), (1, OF_20), (1, VERSION_9)]),
+                capture: Some(&[(1, MAGIC), (1, OF_20), (1, VERSION_7)]),
                 ..one
             },
             Some(b""),
-            b"refused 1 version 9\nend 1 1 0 0 0 0\n",
+            b"refused 1 version 7\nend 1 1 0 0 0 0\n",
         ),
         (
             Before {
@@ -736,22 +736,7 @@ fn each_cause_is_told_with_its_line(rt: HostRuntime) -> Result<(), Fail> {
 
 #[test]
 fn what_is_not_built_yet_is_refused_at_no_line(rt: HostRuntime) -> Result<(), Fail> {
-    let cases: [Refused; 11] = [
-        (
-            &[(1, CONFIG), (1, b"nfacctd_renormalize: true\n")],
-            NOTHING_BUILT,
-            NOT_IN_PROFILE,
-        ),
-        (
-            &[(1, CONFIG), (1, b"pre_tag_map: tags.map\n")],
-            NOTHING_BUILT,
-            NOT_IN_PROFILE,
-        ),
-        (
-            &[(1, CONFIG), (1, b"sampling_map: rates.map\n")],
-            NOTHING_BUILT,
-            NOT_IN_PROFILE,
-        ),
+    let cases: [Refused; 8] = [
         (
             &[(1, CONFIG), (1, b"bgp_agent_map: agents.map\n")],
             NOTHING_BUILT,
@@ -796,7 +781,7 @@ print_output_file_append: true\nacct_flow_capture: flows.cap\n",
                 (1, NO_NAMES),
                 (
                     1,
-                    b"print_output_file: nfacctd.conf\nnfacctd_renormalize: true\n",
+                    b"print_output_file: nfacctd.conf\nbgp_agent_map: agents.map\n",
                 ),
             ],
             NOTHING_BUILT,
@@ -814,7 +799,7 @@ print_output_file_append: true\nacct_flow_capture: flows.cap\n",
         ),
     ];
     let found = first_difference(rt.alloc(), &cases)?;
-    assert_eq!(rt; found, (11, "none"));
+    assert_eq!(rt; found, (8, "none"));
     let audit: [Refused; 1] = [(
         &[
             (1, NO_NAMES),

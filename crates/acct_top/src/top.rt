@@ -1,20 +1,21 @@
-ghost use Rattle.std.specs.Prelude.{◌≡◌, ◌⊎◌, List, ℕ, ◌∷◌, [], map, string_bytes, codes, IsTrue, IfOk, IfSome, IfNone};
+ghost use Rattle.std.specs.Prelude.{◌≡◌, List, ℕ, map, string_bytes, IsTrue, IfOk, IfErr, IfSome, IfNone};
 ghost use Rattle.acct_top.specs.Answers.{HasReason, HaveOneJob, Holds, LeavesOthers, NamesFile, RunReason};
 ghost use Rattle.acct_top.specs.Complete.{IsOwed};
+ghost use Rattle.acct_top.specs.Reading.{IsJob, IsNoJob, ReadReason};
 ghost use Rattle.acct_top.specs.Say.{SaysAnswer};
-ghost use Rattle.acct_top.specs.State.{state_of};
+ghost use Rattle.acct_top.specs.State.{OnlyRead, state_of};
 
-use crate::read_job::{Refusal, read_job};
+use crate::read_job::{job_of, read_built};
+use crate::read_map::map_of;
+use crate::read_text::{read_text, refused};
 use crate::run::run_job;
 use crate::say::say_answer;
-use crate::{Answer, AnyCause};
+use crate::{Answer, AnyCause, Job};
 use acct_types::{NoMemory, Text};
-use config_keys::{Tool, UsageFault, Words, read_words};
-use outside_io::{IoFault, Place, Sink, read_name};
+use config_keys::{ConfigCause, ConfigFault, Tool, UsageFault, Words, read_words};
+use outside_io::{Place, Sink};
+use pretag_map::{SamplingMap, TagMap};
 use std::alloc::Global;
-
-/// The most octets of a configuration.
-const MOST_CONFIG: usize = 1_048_576;
 
 // The file that the words name.
 fn named_file(alloc: Global, tool: Tool, words: &[String]) -> Result<Option<Text>, NoMemory>
@@ -29,13 +30,50 @@ fn named_file(alloc: Global, tool: Tool, words: &[String]) -> Result<Option<Text
     }
 }
 
-// Reads the words and the configuration, and does the job.
+// Reads the configuration in a file and its maps, the map of tags first.
+fn read_job<P: Place>(alloc: Global, tool: Tool, place: &mut P, file: &Text) -> Result<Job, Answer>
+    ensures job { IsTrue P.tells → IfOk result (λ job. IsJob job tool file.now (P.names place.old)) }
+    ensures refused { IsTrue P.tells → IfErr result (λ answer. IsNoJob answer tool file.now (P.names place.old)) }
+    ensures reason { IfErr result (λ answer. ReadReason answer
+        (state_of P.names P.taken P.open_faults P.read_faults P.write_faults place.old)
+        (state_of P.names P.taken P.open_faults P.read_faults P.write_faults place.new)) }
+    ensures names { IsTrue P.tells → P.names place.new ≡ P.names place.old }
+    ensures only_read { OnlyRead
+        (state_of P.names P.taken P.open_faults P.read_faults P.write_faults place.old)
+        (state_of P.names P.taken P.open_faults P.read_faults P.write_faults place.new) }
+{
+    let text = match read_text(alloc, place, file) {
+        Ok(text) => text,
+        Err(answer) => return Err(answer),
+    };
+    let config = match read_built(alloc, tool, file, text.as_slice()) {
+        Ok(config) => config,
+        Err(ConfigFault::At { line, cause }) => {
+            return Err(refused(file, line, AnyCause::Config(cause)));
+        }
+        Err(ConfigFault::NoMemory) => return Err(Answer::NoMemory),
+    };
+    let tags = match map_of::<P, TagMap>(alloc, place, &config.pre_tag_map) {
+        Ok(tags) => tags,
+        Err(answer) => return Err(answer),
+    };
+    let samplings = match map_of::<P, SamplingMap>(alloc, place, &config.sampling_map) {
+        Ok(samplings) => samplings,
+        Err(answer) => return Err(answer),
+    };
+    match job_of(config, tags, samplings) {
+        Some(job) => Ok(job),
+        None => Err(refused(file, 0, AnyCause::Config(ConfigCause::MissingKey))),
+    }
+}
+
+// Reads the words, the configuration and its maps, and does the job.
 fn run<P: Place>(alloc: Global, tool: Tool, words: &[String], place: &mut P) -> Answer
     ensures holds { IsTrue P.tells → Holds result tool (map string_bytes words.now)
         (state_of P.names P.taken P.open_faults P.read_faults P.write_faults place.old)
         (state_of P.names P.taken P.open_faults P.read_faults P.write_faults place.new) }
     ensures others { IsTrue P.tells → LeavesOthers tool (map string_bytes words.now) (P.names place.old) (P.names place.new) }
-    ensures reason { RunReason result tool (map string_bytes words.now)
+    ensures reason { RunReason result P.tells tool (map string_bytes words.now)
         (state_of P.names P.taken P.open_faults P.read_faults P.write_faults place.old)
         (state_of P.names P.taken P.open_faults P.read_faults P.write_faults place.new) }
 {
@@ -44,31 +82,14 @@ fn run<P: Place>(alloc: Global, tool: Tool, words: &[String], place: &mut P) -> 
         Ok(None) => return Answer::Usage,
         Err(NoMemory) => return Answer::NoMemory,
     };
-    let text = match read_name(alloc, place, &file, MOST_CONFIG + 1) {
-        Ok(text) => text,
-        Err(IoFault::Failed) => return Answer::OpenFault { name: file },
-        Err(IoFault::NoMemory) => return Answer::NoMemory,
-    };
-    if text.len() > MOST_CONFIG {
-        return Answer::ConfigRefused {
-            file,
-            line: 0,
-            cause: AnyCause::TooLong,
-        };
-    }
-    match read_job(alloc, tool, &file, text.as_slice()) {
+    match read_job(alloc, tool, place, &file) {
         Ok(job) => run_job(alloc, place, &job),
-        Err(Refusal::At { line, cause }) => Answer::ConfigRefused {
-            file,
-            line,
-            cause: AnyCause::Config(cause),
-        },
-        Err(Refusal::NoMemory) => Answer::NoMemory,
+        Err(answer) => answer,
     }
 }
 
-/// Reads the words, the configuration and the capture, writes the outputs and the audit, and says one line. It
-/// waits for nobody and always returns.
+/// Reads the words, the configuration, its maps and the capture, writes the outputs and the audit, and says one line.
+/// It waits for nobody and always returns.
 pub fn account_alone<P: Place, S: Sink>(
     alloc: Global,
     tool: Tool,
@@ -91,7 +112,7 @@ pub fn account_alone<P: Place, S: Sink>(
     ensures others { IsTrue P.tells → LeavesOthers tool (map string_bytes words.now) (P.names place.old) (P.names place.new) }
 
     // A fault is answered only where its number rose.
-    ensures reason { HasReason result tool (map string_bytes words.now)
+    ensures reason { HasReason result P.tells tool (map string_bytes words.now)
         (state_of P.names P.taken P.open_faults P.read_faults P.write_faults place.old)
         (state_of P.names P.taken P.open_faults P.read_faults P.write_faults place.new)
         (S.faults say.old) (S.faults say.new) }

@@ -41,6 +41,22 @@ pub fn u128_at(octets: &[u8], place: usize) -> u128
     BigEndian::read_u128(&octets[place..])
 }
 
+/// The number in one to eight octets from a place on.
+#[tactic(auto, unfolding(crate::specs::Numbers::number_at))]
+pub fn uint_at(octets: &[u8], place: usize, width: usize) -> u64
+    requires some { 1 ≤ width }
+    requires fits { width ≤ 8 }
+    requires room { place + width ≤ length octets.now }
+    ensures { result ≡ number_at octets.now place width }
+{
+    match width {
+        1 => u64::from(octets[place]),
+        2 => u64::from(u16_at(octets, place)),
+        4 => u64::from(u32_at(octets, place)),
+        _ => BigEndian::read_uint(&octets[place..], width),
+    }
+}
+
 /// The octets from a place on.
 pub fn after(octets: &[u8], place: usize) -> &[u8]
     requires { place ≤ length octets.now }

@@ -4,8 +4,7 @@ ghost use Rattle.std.specs.Prelude.{◌≡◌, ◌++◌, true, OnOk, OnErr, code
 ghost use Rattle.acct_types.specs.Cells.{are_plain};
 ghost use Rattle.acct_types.specs.Routes.{BeginsWith, communities_text, community_text, hop_text, numbers_text, path_text};
 
-use crate::{Addr, List, NoMemory, Octets, Prefix};
-use itoa::Buffer;
+use crate::{Addr, List, NoMemory, Octets, Prefix, append_decimal};
 
 /// A step of an AS path (RFC 4271, 4.3).
 #[derive(Debug, PartialEq, Eq, Drop)]
@@ -147,6 +146,5 @@ fn push_number(out: &mut Octets, number: u32) -> Result<(), NoMemory>
     ensures ok { OnOk result (out.new ≡ out.old ++ decimal number) }
     ensures kept { BeginsWith out.old out.new }
 {
-    let mut buffer = Buffer::new();
-    out.extend(buffer.format(number).as_bytes())
+    append_decimal(number, out)
 }

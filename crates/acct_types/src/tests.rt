@@ -1,6 +1,6 @@
 use crate::{
-    Addr, CellRef, Counts, Hop, Key, List, NoMemory, Octets, Prefix, RouteAttrs, Text, numbers,
-    read_address,
+    Addr, CellRef, Counts, Hop, Key, List, NoMemory, Octets, Prefix, RouteAttrs, Text,
+    append_decimal, numbers, read_address,
 };
 use std::hash::{FoldHasher, Hash, Hasher};
 use std::test::Fail;
@@ -278,7 +278,29 @@ fn reads_big_endian(rt: HostRuntime) {
         numbers::u128_at(&octets, 1),
         0x0102_0304_0506_0708_090a_0b0c_0d0e_0f10
     );
+    for (width, number) in [
+        (1usize, 1u64),
+        (2, 0x0102),
+        (3, 0x01_0203),
+        (4, 0x0102_0304),
+        (5, 0x01_0203_0405),
+        (6, 0x0102_0304_0506),
+        (7, 0x01_0203_0405_0607),
+        (8, 0x0102_0304_0506_0708),
+    ] {
+        assert_eq!(rt; numbers::uint_at(&octets, 1, width), number);
+    }
     assert_eq!(rt; numbers::after(&octets, 15), [15, 16].as_slice());
+}
+
+#[test]
+fn prints_decimals(rt: HostRuntime) -> Result<(), Fail> {
+    let mut out = Octets::new(rt.alloc());
+    append_decimal(0u8, &mut out)?;
+    append_decimal(u128::MAX, &mut out)?;
+    let wanted = "0340282366920938463463374607431768211455";
+    assert_eq!(rt; out.as_slice(), wanted.as_bytes());
+    Ok(())
 }
 
 #[test]

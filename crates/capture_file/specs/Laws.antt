@@ -1,5 +1,5 @@
 -- What holds of the datagrams of every capture.
-use Rattle.std.specs.Prelude.{◌≡◌, ◌≤◌, ◌<◌, ◌^◌, ℕ, List, [], ◌∷◌, ◌++◌, flat_map, length}
+use Rattle.std.specs.Prelude.{◌≡◌, ◌≤◌, ◌<◌, ◌^◌, ℕ, List, [], ◌∷◌, ◌++◌, ◌+◌, ◌-◌, flat_map, length}
 use Rattle.acct_types.specs.declared.addr.Addr.{Addr}
 use Rattle.acct_types.specs.declared.addr.Addr.TheVariants.{V4, V6}
 use Rattle.acct_types.specs.declared.datagram.Datagram.{Datagram}
@@ -22,6 +22,12 @@ pub record FitsEvent (d : Datagram) : Type 0 where
   pub exporter : FitsAddress d.exporter
   pub port : d.port < 2 ^ 16
   pub octets : length d.octets ≤ LONGEST
+
+-- Each datagram has at most as many octets as an event may carry, and the events of all, each of 19 octets at least before those of its
+-- datagram, have at most so many.
+abbrev pub FitIn : ℕ → List Datagram → Type 0
+FitIn most [] = Unit {0}
+FitIn most (d ∷ ds) = (length d.octets ≤ LONGEST) × (19 + length d.octets ≤ most) × FitIn (most - (19 + length d.octets)) ds
 
 -- the octets of the events that datagrams are written as
 abbrev pub spellings_of : List Datagram → List ℕ

@@ -4,7 +4,9 @@ use Rattle.std.proofs.lemmas.List.{reverse-append, reverse-reverse}
 use Rattle.std.proofs.lemmas.List.Splits.{length-slice_split}
 use Rattle.std.proofs.lemmas.List.Sums.{count_by-le-length}
 use Rattle.std.specs.List.{slice_split}
-use Rattle.std.specs.Prelude.{if◌then◌else◌}
+use Rattle.std.specs.Borrow.{Bor}
+use Rattle.std.specs.Prelude.{if◌then◌else◌, map}
+use Rattle.std.proofs.lemmas.List.{length-map}
 use Rattle.config_keys.specs.Lines.{Text, after_blanks, before_blanks, is_blank, lines_in, lines_of, without_return}
 
 return_at_end : (front : Text) (last : ℕ) → (last == 13) ≡ true → without_return (front ++ last ∷ []) ≡ front
@@ -67,3 +69,8 @@ few_lines text =
     let less = no_more_lines (slice_split (λ octet. octet == 10) text) in
     let ends = count_by-le-length (λ octet. octet == 10) text in
     omega (arith, less, ends, length-slice_split (λ octet. octet == 10) text)
+
+pub few_read : (text : Text) (lines : List (Bor Text)) → map (λ l. l.now) lines ≡ lines_of text → length lines ≤ length text + 1
+few_read text lines read =
+    let few = few_lines text in
+    omega (arith, few, ap length read, length-map lines (λ (l : Bor Text). l.now))

@@ -1,6 +1,6 @@
 //! The lines of a configuration, and what stands on a line.
 
-ghost use Rattle.std.specs.Prelude.{◌≡◌, ◌==◌, IfOk, map, option_map, position};
+ghost use Rattle.std.specs.Prelude.{◌≡◌, ◌==◌, ◌≤◌, ◌+◌, IfOk, length, map, option_map, position};
 ghost use Rattle.std.specs.List.{list_all, slice_split};
 ghost use Rattle.config_keys.specs.Lines.{after_blanks, before_blanks, is_blank, is_name, is_name_octet, is_passed_over, is_text, is_text_octet, label_of, labelled, lines_in, lines_of, members_of, name_before_bracket, statement_of, trimmed, without_return};
 ghost use Rattle.config_keys.specs.Views.{label_view, line_view};
@@ -73,7 +73,8 @@ pub fn trimmed(text: &[u8]) -> &[u8]
     before_blanks(after_blanks(text))
 }
 
-fn is_passed_over(line: &[u8]) -> bool
+/// Whether a line is empty or a comment: of spaces and tabs alone, or with `!` or `#` as its first other character.
+pub fn is_passed_over(line: &[u8]) -> bool
     ensures { result ≡ is_passed_over line.now }
 {
     match after_blanks(line) {
@@ -231,9 +232,11 @@ fn lines_in<'a>(alloc: Global, pieces: &[&'a [u8]]) -> Result<Vec<&'a [u8]>, NoM
     Ok(lines)
 }
 
-/// The lines of a text.
+/// The lines of a text, which end with a line feed, before which a carriage return is dropped. The last may lack it.
+#[tactic(auto, using(crate::proofs::LineLemmas::few_read))]
 pub fn read_lines(alloc: Global, text: &[u8]) -> Result<Vec<&[u8]>, NoMemory>
-    ensures { IfOk result (λ lines. map (λ l. l.now) lines.items ≡ lines_of text.now) }
+    ensures lines { IfOk result (λ lines. map (λ l. l.now) lines.items ≡ lines_of text.now) }
+    ensures few { IfOk result (λ lines. length lines.items ≤ length text.now + 1) }
 {
     let pieces = pieces_of(alloc, text, b'\n')?;
     lines_in(alloc, &pieces)

@@ -1,3 +1,4 @@
 pub mod ChangeLemmas
 pub mod FieldLemmas
+pub mod RateLemmas
 pub mod StoreLemmas

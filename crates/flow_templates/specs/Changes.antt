@@ -6,6 +6,7 @@ use Rattle.acct_types.specs.declared.addr.Addr.{Addr}
 use Rattle.acct_types.specs.declared.addr.Addr.TheVariants.{V4, V6}
 use Rattle.flow_templates.specs.declared.template.Domain.{Domain}
 use Rattle.flow_templates.specs.declared.template.Template.{Template}
+use Rattle.flow_templates.specs.declared.rate.LearnedRate.{LearnedRate}
 use Rattle.flow_templates.specs.declared.template.TemplateKey.{TemplateKey}
 use Rattle.flow_templates.specs.declared.change.TemplateChange.{TemplateChange}
 use Rattle.flow_templates.specs.declared.change.TemplateChange.TheVariants.{Put, Withdraw, WithdrawAll}
@@ -74,6 +75,17 @@ ChangesAddUp = (changes : List TemplateChange) (last : TemplateChange) (key : Te
 -- the changes that a datagram makes, in their order
 pub record StagedChanges : Type 0 where
   pub templates : List TemplateChange
+  pub rates : List LearnedRate
+
+abbrev pub nothing_staged : StagedChanges
+nothing_staged = record { templates = []; rates = [] }
+
+-- and behind them one more
+abbrev pub and_change : StagedChanges → TemplateChange → StagedChanges
+and_change staged change = record { templates = staged.templates ++ change ∷ []; rates = staged.rates }
+
+abbrev pub and_rate : StagedChanges → LearnedRate → StagedChanges
+and_rate staged learned = record { templates = staged.templates; rates = staged.rates ++ learned ∷ [] }
 
 -- an entry stays where a kind of a domain is withdrawn
 abbrev pub is_kept : Domain → Bool → TemplateKey → Template → Bool

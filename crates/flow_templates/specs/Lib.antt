@@ -1,4 +1,6 @@
 pub mod Changes
+pub mod Decoding
 pub mod Elements
 pub mod Keys
+pub mod Known
 pub mod Templates

@@ -1,9 +1,13 @@
-//! Templates of NetFlow datagrams: how they are read, where they are kept, and how a datagram's changes are staged.
+//! What flow datagrams give, or why they are refused, and the templates of NetFlow: how they are read, where they are kept, and how
+//! a datagram's changes are staged.
 #![tactic(auto)]
 
 mod change;
+mod decoded;
 mod elements;
+mod rate;
 mod reading;
+mod refusal;
 mod staged;
 mod store;
 mod template;
@@ -11,7 +15,10 @@ mod template;
 mod tests;
 
 pub use change::{TemplateChange, changes_add_up};
+pub use decoded::{Notice, NoticeCause, RawDecoded, RawRecord};
+pub use rate::{LearnedRate, OptionStore, RateKey, rates_add_up};
 pub use reading::{read_options_template, read_template};
+pub use refusal::{Cause, Undecodable};
 pub use staged::{Staged, Stores};
 pub use store::TemplateStore;
 pub use template::{

@@ -1,10 +1,13 @@
-ghost use Rattle.std.specs.Prelude.{◌≡◌, ◌==◌, length, ◌++◌, [], ◌∷◌, true, OnOk, OnErr, IfSome};
+ghost use Rattle.std.specs.Prelude.{◌≡◌, ◌==◌, length, ◌++◌, [], ◌∷◌, true, OnOk, OnErr, IfSome, IsTrue, ◌↔◌};
 ghost use Rattle.std.specs.Option.{option_copied};
 ghost use Rattle.flow_templates.specs.declared.change.TemplateChange.TheVariants as change;
-ghost use Rattle.flow_templates.specs.Changes.{after_all, ChangesAll, found, key_of};
+ghost use Rattle.flow_templates.specs.Changes.{and_change, and_rate, key_of, nothing_staged};
+ghost use Rattle.flow_templates.specs.Known.{known_after, known_in, learned_of, nothing_known, rate_key_of};
 ghost use Rattle.flow_templates.specs.Templates.{is_accepted};
 
-use crate::{Domain, Template, TemplateChange, TemplateKey, TemplateStore};
+use crate::{
+    Domain, LearnedRate, OptionStore, RateKey, Template, TemplateChange, TemplateKey, TemplateStore,
+};
 use acct_types::{List, NoMemory};
 use std::alloc::Global;
 use std::marker::Model;
@@ -13,15 +16,19 @@ use std::marker::Model;
 #[derive(Drop)]
 pub struct Stores {
     pub templates: TemplateStore,
+    pub options: OptionStore,
 }
 
 impl Stores {
     /// Nothing, which takes no memory.
     pub fn new(alloc: Global) -> Stores
-        ensures { result.templates ≡ [] }
+        ensures templates { result.templates ≡ [] }
+        ensures options { result.options ≡ [] }
+        ensures known { known_in result ≡ nothing_known }
     {
         Stores {
             templates: TemplateStore::new(alloc),
+            options: OptionStore::new(alloc),
         }
     }
 }
@@ -31,6 +38,7 @@ impl Stores {
 #[derive(Drop)]
 pub struct Staged {
     changes: List<TemplateChange>,
+    rates: List<LearnedRate>,
 }
 
 impl Model for Staged {
@@ -40,7 +48,7 @@ impl Model for Staged {
 
     ghost Value = { StagedChanges };
 
-    ghost view = { λ staged. record { templates = staged.changes } };
+    ghost view = { λ staged. record { templates = staged.changes; rates = staged.rates } };
 
     ghost invariant = { λ staged. list_all is_accepted_change staged.changes ≡ true };
 }
@@ -48,23 +56,24 @@ impl Model for Staged {
 impl Staged {
     /// No change, which takes no memory.
     pub fn new(alloc: Global) -> Staged
-        ensures { result.templates ≡ [] }
+        ensures { result ≡ nothing_staged }
     {
         Staged {
             changes: List::new(alloc),
+            rates: List::new(alloc),
         }
     }
 
     pub fn is_empty(&self) -> bool
-        ensures { result ≡ (length self.now.templates == 0) }
+        ensures { IsTrue result ↔ self.now ≡ nothing_staged }
     {
-        self.changes.is_empty()
+        self.changes.is_empty() && self.rates.is_empty()
     }
 
     /// Notes behind the earlier changes that a template is put. After NoMemory nothing has changed.
     pub fn put(&mut self, domain: &Domain, id: u16, template: Template) -> Result<(), NoMemory>
         requires { is_accepted domain.now.version template ≡ true }
-        ensures ok { OnOk result (self.new.templates ≡ self.old.templates ++ change.Put (key_of domain.now id) template ∷ []) }
+        ensures ok { OnOk result (self.new ≡ and_change self.old (change.Put (key_of domain.now id) template)) }
         ensures err { OnErr result (self.new ≡ self.old) }
     {
         let key = TemplateKey::new(domain, id);
@@ -73,7 +82,7 @@ impl Staged {
 
     /// Notes behind the earlier changes that a template is withdrawn. After NoMemory nothing has changed.
     pub fn withdraw(&mut self, domain: &Domain, id: u16) -> Result<(), NoMemory>
-        ensures ok { OnOk result (self.new.templates ≡ self.old.templates ++ change.Withdraw (key_of domain.now id) ∷ []) }
+        ensures ok { OnOk result (self.new ≡ and_change self.old (change.Withdraw (key_of domain.now id))) }
         ensures err { OnErr result (self.new ≡ self.old) }
     {
         let key = TemplateKey::new(domain, id);
@@ -83,16 +92,30 @@ impl Staged {
     /// Notes behind the earlier changes that all options templates of a domain are withdrawn, or all others. After
     /// NoMemory nothing has changed.
     pub fn withdraw_all(&mut self, domain: &Domain, options: bool) -> Result<(), NoMemory>
-        ensures ok { OnOk result (self.new.templates ≡ self.old.templates ++ change.WithdrawAll domain.now options ∷ []) }
+        ensures ok { OnOk result (self.new ≡ and_change self.old (change.WithdrawAll domain.now options)) }
         ensures err { OnErr result (self.new ≡ self.old) }
     {
         self.changes
             .push(TemplateChange::WithdrawAll(*domain, options))
     }
 
+    /// Notes behind the earlier changes that a sampling rate was learned. After NoMemory nothing has changed.
+    pub fn learn(
+        &mut self,
+        domain: &Domain,
+        sampler: Option<u64>,
+        rate: u32,
+    ) -> Result<(), NoMemory>
+        ensures ok { OnOk result (self.new ≡ and_rate self.old (learned_of domain.now sampler rate)) }
+        ensures err { OnErr result (self.new ≡ self.old) }
+    {
+        let key = RateKey::new(domain, sampler);
+        self.rates.push(LearnedRate { key, rate })
+    }
+
     /// The template that the stores would find after these changes.
     pub fn find<'a>(&'a self, stores: &'a Stores, domain: &Domain, id: u16) -> Option<&'a Template>
-        ensures found { option_copied result ≡ after_all self.now.templates (key_of domain.now id) (found stores.now.templates (key_of domain.now id)) }
+        ensures found { option_copied result ≡ (known_after (known_in stores.now) self.now).template (key_of domain.now id) }
         ensures accepted { IfSome result (λ template. is_accepted domain.now.version template.now ≡ true) }
     {
         let key = TemplateKey::new(domain, id);
@@ -103,11 +126,27 @@ impl Staged {
         found
     }
 
+    /// The sampling rate that the stores would have after these changes.
+    pub fn rate(&self, stores: &Stores, domain: &Domain, sampler: Option<u64>) -> Option<u32>
+        ensures { result ≡ (known_after (known_in stores.now) self.now).rate (rate_key_of domain.now sampler) }
+    {
+        let key = RateKey::new(domain, sampler);
+        let mut rate = stores.options.rate(domain, sampler);
+        for learned in self.rates.as_slice() {
+            rate = learned.after(&key, rate);
+        }
+        rate
+    }
+
     /// Makes the changes in the stores, one behind another: all of them, or none after NoMemory.
     pub fn commit(self, stores: &mut Stores) -> Result<(), NoMemory>
-        ensures ok { OnOk result (ChangesAll stores.old.templates stores.new.templates self.templates) }
+        ensures ok { OnOk result (known_in stores.new ≡ known_after (known_in stores.old) self) }
         ensures err { OnErr result (stores.new ≡ stores.old) }
     {
-        stores.templates.change(self.changes.into_vec())
+        let changes = self.changes.into_vec();
+        let learned = self.rates.as_slice();
+        stores
+            .templates
+            .change(changes, &mut stores.options, learned)
     }
 }

@@ -4,10 +4,11 @@ ghost use Rattle.std.specs.Option.{option_copied};
 ghost use Rattle.indexmap.specs.IndexMap.{spare};
 ghost use Rattle.flow_templates.specs.declared.change.TemplateChange.TheVariants as change;
 ghost use Rattle.flow_templates.specs.Changes.{Changes, ChangesAll, found, is_accepted_change, is_kept, key_of};
+ghost use Rattle.flow_templates.specs.Known.{LearnsAll};
 ghost use Rattle.flow_templates.specs.Templates.{is_accepted};
 
 use crate::change::is_same_domain;
-use crate::{Domain, Template, TemplateChange, TemplateKey};
+use crate::{Domain, LearnedRate, OptionStore, Template, TemplateChange, TemplateKey};
 use acct_types::NoMemory;
 use indexmap::IndexMap;
 use std::alloc::Global;
@@ -120,13 +121,22 @@ impl TemplateStore {
         self.templates.get(&key)
     }
 
-    /// Makes changes, one behind another: all of them, or none after NoMemory.
-    pub(crate) fn change(&mut self, changes: Vec<TemplateChange>) -> Result<(), NoMemory>
+    /// Makes changes, one behind another, and has a store learn rates: all of it, or nothing after NoMemory.
+    pub(crate) fn change(
+        &mut self,
+        changes: Vec<TemplateChange>,
+        options: &mut OptionStore,
+        learned: &[LearnedRate],
+    ) -> Result<(), NoMemory>
         requires { list_all is_accepted_change changes.items ≡ true }
-        ensures ok { OnOk result (ChangesAll self.old self.new changes.items) }
-        ensures err { OnErr result (self.new ≡ self.old) }
+        ensures templates { OnOk result (ChangesAll self.old self.new changes.items) }
+        ensures rates { OnOk result (LearnsAll options.old options.new learned.now) }
+        ensures templates_stay { OnErr result (self.new ≡ self.old) }
+        ensures rates_stay { OnErr result (options.new ≡ options.old) }
     {
+        // Only these two take memory.
         self.templates.reserve(changes.len())?;
+        options.learn_all(learned)?;
         apply_all(&mut self.templates, changes);
         Ok(())
     }

@@ -14,6 +14,11 @@ const ADDRESSES: [u8; 16] = [1, 44, 0, 3, 0, 8, 0, 4, 0, 12, 0, 4, 3, 231, 0, 1]
 // id 301: a scope of one field, then the sampler's id and interval
 const SAMPLERS: [u8; 18] = [1, 45, 0, 4, 0, 8, 0, 8, 0, 1, 0, 48, 0, 1, 0, 50, 0, 4];
 
+// id 256: source address, a variable field of enterprise 9, and a variable one of no element that is read
+const VARIABLE: [u8; 20] = [
+    1, 0, 0, 3, 0, 8, 0, 4, 128, 100, 255, 255, 0, 0, 0, 9, 3, 231, 255, 255,
+];
+
 fn domain(id: u32) -> Domain
     ensures { result.version ≡ 9 }
 {
@@ -21,6 +26,25 @@ fn domain(id: u32) -> Domain
         exporter: Addr::V4(0xc000_0201),
         version: 9,
         id,
+    }
+}
+
+// The same source id of another exporter, and of another version.
+fn other_exporter() -> Domain
+    ensures { result.version ≡ 9 }
+{
+    Domain {
+        exporter: Addr::V6(0xc000_0201),
+        ..domain(1)
+    }
+}
+
+fn other_version() -> Domain
+    ensures { result.version ≡ 10 }
+{
+    Domain {
+        version: 10,
+        ..domain(1)
     }
 }
 
@@ -118,6 +142,117 @@ fn a_refusal_has_its_cause(rt: HostRuntime) {
 }
 
 #[test]
+fn an_ipfix_refusal_has_its_cause(rt: HostRuntime) {
+    let templates: [(&[u8], TemplateFault); 13] = [
+        (&[1, 44, 0], TemplateFault::TemplateCut),
+        (&[0, 255, 0, 1], TemplateFault::TemplateId),
+        (&[0, 2, 0, 1], TemplateFault::TemplateId),
+        (&[0, 3, 0, 0], TemplateFault::TemplateId),
+        (&[0, 0, 0, 0], TemplateFault::TemplateId),
+        (&[1, 0, 0, 1, 0, 8, 0], TemplateFault::TemplateCut),
+        (
+            &[1, 0, 0, 1, 128, 8, 0, 4, 0, 0, 0],
+            TemplateFault::TemplateCut,
+        ),
+        (
+            &[1, 0, 0, 2, 128, 8, 0, 4, 0, 0, 0, 9],
+            TemplateFault::TemplateCut,
+        ),
+        (&[1, 0, 0, 1, 0, 8, 0, 5], TemplateFault::FieldWidth),
+        (&[1, 0, 0, 1, 0, 1, 255, 255], TemplateFault::FieldWidth),
+        (&[1, 0, 0, 1, 0, 85, 0, 9], TemplateFault::FieldWidth),
+        (&[1, 0, 0, 1, 3, 231, 0, 0], TemplateFault::TemplateEmpty),
+        (
+            &[1, 0, 0, 1, 128, 8, 0, 0, 0, 0, 0, 9],
+            TemplateFault::TemplateEmpty,
+        ),
+    ];
+    for (octets, cause) in templates {
+        let refused = read_template(rt.alloc(), 10, octets).err();
+        assert_eq!(rt; refused, Some(cause));
+    }
+    let options: [(&[u8], TemplateFault); 10] = [
+        (&[0, 3, 0, 1], TemplateFault::TemplateId),
+        (&[0, 2, 0, 0], TemplateFault::TemplateId),
+        (&[0, 255, 0, 0], TemplateFault::TemplateId),
+        (&[1, 0, 0, 1], TemplateFault::TemplateCut),
+        (&[1, 0, 0, 1, 0], TemplateFault::TemplateCut),
+        (&[1, 0, 0, 1, 0, 0], TemplateFault::ScopeCount),
+        (&[1, 0, 0, 1, 0, 2], TemplateFault::ScopeCount),
+        (&[1, 0, 0, 1, 0, 1, 0, 8], TemplateFault::TemplateCut),
+        (&[1, 0, 0, 1, 0, 1, 0, 8, 0, 1], TemplateFault::FieldWidth),
+        (
+            &[1, 0, 0, 1, 0, 1, 3, 231, 0, 0],
+            TemplateFault::TemplateEmpty,
+        ),
+    ];
+    for (octets, cause) in options {
+        let refused = read_options_template(rt.alloc(), 10, octets).err();
+        assert_eq!(rt; refused, Some(cause));
+    }
+}
+
+#[test]
+fn a_field_of_an_enterprise_has_its_number(rt: HostRuntime) -> Result<(), Fail> {
+    let mut octets = [0u8; 22];
+    octets[..20].copy_from_slice(&VARIABLE);
+    let turn = read_template(rt.alloc(), 10, &octets).map_err(|_| "refused")?;
+    assert_eq!(rt; turn.id, 256);
+    assert_eq!(rt; turn.used, 20);
+    let template = defined(turn)?;
+    let [source, own, other] = template.fields.as_slice() else {
+        return Err("not three fields".into());
+    };
+    assert_eq!(rt;
+        (source.enterprise, source.element, source.width),
+        (None, 8, 4)
+    );
+    assert_eq!(rt;
+        (own.enterprise, own.element, own.width),
+        (Some(9), 100, 65535)
+    );
+    assert_eq!(rt;
+        (other.enterprise, other.element, other.width),
+        (None, 999, 65535)
+    );
+    // each variable field has an octet at least
+    assert_eq!(rt; template.least_length(10), 6);
+    Ok(())
+}
+
+#[test]
+fn a_scope_of_ipfix_is_counted_in_fields(rt: HostRuntime) -> Result<(), Fail> {
+    let octets = [
+        1u8, 1, 0, 3, 0, 1, 1, 46, 0, 4, 1, 49, 0, 4, 1, 50, 0, 4, 0, 0,
+    ];
+    let turn = read_options_template(rt.alloc(), 10, &octets).map_err(|_| "refused")?;
+    assert_eq!(rt; turn.id, 257);
+    assert_eq!(rt; turn.used, 18);
+    let template = defined(turn)?;
+    assert!(rt; template.options && template.scope_fields == 1);
+    assert_eq!(rt; template.fields.len(), 3);
+    Ok(())
+}
+
+#[test]
+fn a_withdrawal_has_four_octets(rt: HostRuntime) -> Result<(), Fail> {
+    let one = [1u8, 44, 0, 0, 0];
+    let turn = read_template(rt.alloc(), 10, &one).map_err(|_| "refused")?;
+    assert_eq!(rt; (turn.id, turn.used), (300, 4));
+    assert!(rt; matches!(turn.what, TemplateWhat::Withdrawn));
+    let turn = read_options_template(rt.alloc(), 10, &one).map_err(|_| "refused")?;
+    assert_eq!(rt; (turn.id, turn.used), (300, 4));
+    assert!(rt; matches!(turn.what, TemplateWhat::Withdrawn));
+    let turn = read_template(rt.alloc(), 10, &[0, 2, 0, 0]).map_err(|_| "refused")?;
+    assert_eq!(rt; turn.used, 4);
+    assert!(rt; matches!(turn.what, TemplateWhat::AllWithdrawn));
+    let turn = read_options_template(rt.alloc(), 10, &[0, 3, 0, 0]).map_err(|_| "refused")?;
+    assert_eq!(rt; turn.used, 4);
+    assert!(rt; matches!(turn.what, TemplateWhat::AllWithdrawn));
+    Ok(())
+}
+
+#[test]
 fn any_width_will_do_for_an_element_that_is_not_read(rt: HostRuntime) {
     // 65535 is a width as any other in version 9, and 305 an element of IPFIX alone
     for octets in [
@@ -157,6 +292,33 @@ fn an_id_is_one_of_its_domain(rt: HostRuntime) -> Result<(), Fail> {
 }
 
 #[test]
+fn the_same_id_elsewhere_is_another_template(rt: HostRuntime) -> Result<(), Fail> {
+    let mut stores = Stores::new(rt.alloc());
+    let template = addresses(rt.alloc())?;
+    let other = addresses(rt.alloc())?;
+    let options = samplers(rt.alloc())?;
+    if !template.is_accepted(9) || !other.is_accepted(10) || !options.is_accepted(9) {
+        return Err("not accepted".into());
+    }
+    let store = &mut stores.templates;
+    store.put(&other_exporter(), 300, options)?;
+    assert!(rt; store.find(&domain(1), 300).is_none());
+    store.put(&other_version(), 300, other)?;
+    assert!(rt; store.find(&domain(1), 300).is_none());
+    store.put(&domain(1), 300, template)?;
+    assert!(rt;
+        store
+            .find(&other_exporter(), 300)
+            .is_some_and(|kept| kept.options)
+    );
+    store.withdraw(&other_version(), 300);
+    store.withdraw_all(&other_exporter(), true);
+    assert!(rt; store.find(&other_exporter(), 300).is_none());
+    assert!(rt; store.find(&domain(1), 300).is_some());
+    Ok(())
+}
+
+#[test]
 fn staged_changes_wait_for_the_commit(rt: HostRuntime) -> Result<(), Fail> {
     let mut stores = Stores::new(rt.alloc());
     let mut staged = Staged::new(rt.alloc());
@@ -175,5 +337,74 @@ fn staged_changes_wait_for_the_commit(rt: HostRuntime) -> Result<(), Fail> {
     staged.commit(&mut stores)?;
     assert!(rt; stores.templates.find(&domain(1), 300).is_some());
     assert!(rt; stores.templates.find(&domain(1), 301).is_none());
+    Ok(())
+}
+
+#[test]
+fn a_staged_withdrawal_hides_what_is_kept_and_staged(rt: HostRuntime) -> Result<(), Fail> {
+    let mut stores = Stores::new(rt.alloc());
+    let mut staged = Staged::new(rt.alloc());
+    let kept = addresses(rt.alloc())?;
+    let template = addresses(rt.alloc())?;
+    let options = samplers(rt.alloc())?;
+    if !kept.is_accepted(9) || !template.is_accepted(9) || !options.is_accepted(9) {
+        return Err("not accepted".into());
+    }
+    stores.templates.put(&domain(1), 300, kept)?;
+    staged.put(&domain(1), 301, template)?;
+    staged.put(&domain(1), 302, options)?;
+    staged.withdraw(&domain(1), 301)?;
+    assert!(rt; staged.find(&stores, &domain(1), 301).is_none());
+    staged.withdraw_all(&domain(1), false)?;
+    assert!(rt; staged.find(&stores, &domain(1), 300).is_none());
+    assert!(rt; staged.find(&stores, &domain(1), 302).is_some());
+    staged.commit(&mut stores)?;
+    assert!(rt; stores.templates.find(&domain(1), 300).is_none());
+    assert!(rt; stores.templates.find(&domain(1), 302).is_some());
+    Ok(())
+}
+
+#[test]
+fn a_rate_is_one_of_its_domain_and_sampler(rt: HostRuntime) -> Result<(), Fail> {
+    let mut stores = Stores::new(rt.alloc());
+    let store = &mut stores.options;
+    store.learn(&domain(1), Some(7), 100)?;
+    store.learn(&domain(1), Some(0), 200)?;
+    store.learn(&domain(1), None, 300)?;
+    store.learn(&domain(1), Some(7), 400)?;
+    assert_eq!(rt; store.rate(&domain(1), Some(7)), Some(400));
+    assert_eq!(rt; store.rate(&domain(1), Some(0)), Some(200));
+    assert_eq!(rt; store.rate(&domain(1), None), Some(300));
+    assert_eq!(rt; store.rate(&domain(1), Some(8)), None);
+    assert_eq!(rt; store.rate(&domain(2), Some(7)), None);
+    assert_eq!(rt; store.rate(&other_exporter(), Some(7)), None);
+    assert_eq!(rt; store.rate(&other_version(), Some(7)), None);
+    Ok(())
+}
+
+#[test]
+fn a_commit_has_templates_and_rates(rt: HostRuntime) -> Result<(), Fail> {
+    let mut stores = Stores::new(rt.alloc());
+    let mut staged = Staged::new(rt.alloc());
+    let template = addresses(rt.alloc())?;
+    if !template.is_accepted(9) {
+        return Err("not accepted".into());
+    }
+    assert!(rt; staged.is_empty());
+    stores.options.learn(&domain(1), Some(7), 100)?;
+    staged.put(&domain(1), 300, template)?;
+    staged.learn(&domain(1), None, 200)?;
+    staged.learn(&domain(1), Some(7), 300)?;
+    staged.learn(&domain(1), Some(7), 400)?;
+    assert!(rt; !staged.is_empty());
+    assert_eq!(rt; staged.rate(&stores, &domain(1), Some(7)), Some(400));
+    assert_eq!(rt; staged.rate(&stores, &domain(1), None), Some(200));
+    assert_eq!(rt; staged.rate(&stores, &domain(2), None), None);
+    assert_eq!(rt; stores.options.rate(&domain(1), Some(7)), Some(100));
+    assert_eq!(rt; stores.options.rate(&domain(1), None), None);
+    staged.commit(&mut stores)?;
+    assert!(rt; stores.templates.find(&domain(1), 300).is_some());
+    assert_eq!(rt; stores.options.rate(&domain(1), Some(7)), Some(400));
+    assert_eq!(rt; stores.options.rate(&domain(1), None), Some(200));
     Ok(())
 }

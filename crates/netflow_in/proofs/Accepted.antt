@@ -8,7 +8,7 @@ use Rattle.std.specs.Prelude.{false, true, nat_lt, ◌==◌}
 use Rattle.byteorder.specs.Numbers.{big_from-append}
 use Rattle.acct_types.specs.Numbers.{number_at}
 use Rattle.acct_types.specs.declared.addr.Addr.{Addr}
-use Rattle.netflow_in.specs.declared.decoded.RawRecord.{RawRecord}
+use Rattle.flow_templates.specs.declared.decoded.RawRecord.{RawRecord}
 use Rattle.std.proofs.Math.ListN.{get_or-append}
 use Rattle.netflow_in.specs.Version5.{count_of, decoded_v5, flow_of, rate_of, records_of, source_of, version_of}
 

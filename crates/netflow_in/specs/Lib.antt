@@ -1,2 +1,2 @@
-pub mod Refusal
 pub mod Version5
+pub mod Version9

@@ -4,9 +4,9 @@ use Rattle.acct_types.specs.Numbers.{number_at}
 use Rattle.acct_types.specs.declared.addr.Addr.{Addr}
 use Rattle.acct_types.specs.declared.addr.Addr.TheVariants.{V4}
 use Rattle.acct_types.specs.declared.flow.FlowRecord.{FlowRecord}
-use Rattle.netflow_in.specs.declared.refusal.Cause.{Cause}
-use Rattle.netflow_in.specs.declared.refusal.Cause.TheVariants.{Short, Version, V5Count, V5Cut}
-use Rattle.netflow_in.specs.declared.decoded.RawRecord.{RawRecord}
+use Rattle.flow_templates.specs.declared.refusal.Cause.{Cause}
+use Rattle.flow_templates.specs.declared.refusal.Cause.TheVariants.{Short, Version, V5Count, V5Cut}
+use Rattle.flow_templates.specs.declared.decoded.RawRecord.{RawRecord}
 
 -- Header: version (2 octets), count (2), sysUptime (4), unix_secs (4), unix_nsecs (4), flow_sequence (4), engine_type (1),
 -- engine_id (1), sampling (2).

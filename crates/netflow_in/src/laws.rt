@@ -2,7 +2,7 @@
 
 ghost use Rattle.std.specs.Prelude.{◌≡◌, ◌≤◌, ◌++◌, List, Ok, length, ℕ};
 ghost use Rattle.acct_types.specs.declared.addr.Addr.{Addr};
-ghost use Rattle.netflow_in.specs.declared.decoded.RawRecord.{RawRecord};
+ghost use Rattle.flow_templates.specs.declared.decoded.RawRecord.{RawRecord};
 ghost use Rattle.netflow_in.specs.Version5.{count_of, decoded_v5};
 
 /// A datagram of version 5 gives as many records as its header counts, from 1 to 30.

@@ -1,14 +1,13 @@
 //! Readers of NetFlow datagrams.
 #![tactic(auto)]
 
-mod decoded;
 pub mod laws;
-mod refusal;
 mod version5;
+mod version9;
 
-pub use decoded::{Notice, NoticeCause, RawDecoded, RawRecord};
-pub use refusal::{Cause, Undecodable};
+pub use flow_templates::{Cause, Notice, NoticeCause, RawDecoded, RawRecord, Undecodable};
 pub use version5::decode_v5;
+pub use version9::decode_v9;
 
 #[cfg(test)]
 mod tests;

@@ -2,13 +2,13 @@
 
 ghost use Rattle.std.specs.Prelude.{◌≡◌, ◌≤◌, ◌*◌, ◌^◌, All, length, IfOk};
 ghost use Rattle.acct_types.specs.Counts.{IsBelow};
-ghost use Rattle.netflow_in.specs.Refusal.{Gives};
+ghost use Rattle.flow_templates.specs.Changes.{nothing_staged};
+ghost use Rattle.flow_templates.specs.Decoding.{Gives, rows_alone};
 ghost use Rattle.netflow_in.specs.Version5.{decoded_v5, flow_of, rate_of, records_of, source_of};
 
-use crate::decoded::{RawDecoded, RawRecord};
-use crate::refusal::{Cause, Undecodable};
 use acct_types::numbers::{after, u16_at, u32_at};
 use acct_types::{Addr, Counts, FlowRecord, List, NoMemory};
+use flow_templates::{Cause, RawDecoded, RawRecord, Undecodable};
 use std::alloc::Global;
 
 const HEADER: usize = 24;
@@ -99,8 +99,9 @@ fn read_records(
 /// where the records aren't whole, in this order. It gives no notices.
 #[tactic(auto, unfolding(crate::specs::Version5::decoded_v5))]
 pub fn decode_v5(alloc: Global, exporter: &Addr, octets: &[u8]) -> Result<RawDecoded, Undecodable>
-    ensures answer { Gives result (decoded_v5 exporter.now octets.now) }
+    ensures answer { Gives result nothing_staged (rows_alone (decoded_v5 exporter.now octets.now)) }
     ensures few { IfOk result (λ decoded. length decoded.rows ≤ 30) }
+    ensures within { IfOk result (λ decoded. length decoded.rows ≤ length octets.now) }
     ensures counts { IfOk result (λ decoded. All (λ row. IsBelow (2 ^ 64) row.flow.counts) decoded.rows) }
 {
     if octets.len() < 2 {

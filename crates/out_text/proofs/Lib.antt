@@ -1,4 +1,5 @@
 pub mod CsvLemmas
+pub mod EventLemmas
 pub mod JsonLemmas
 pub mod LineLemmas
 pub mod OrderLemmas

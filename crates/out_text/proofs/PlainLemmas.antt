@@ -58,7 +58,7 @@ digits_are_plain (suc k) n acc h =
     plain_either (nat_eq (n / 10) 0) (digit_glyph false (n % 10) ∷ acc) (digits_onto k 10 false (n / 10) (digit_glyph false (n % 10) ∷ acc))
     more (digits_are_plain k (n / 10) (digit_glyph false (n % 10) ∷ acc) more)
 
-plain_decimal : (n : ℕ) → are_plain (decimal n) ≡ true
+pub plain_decimal : (n : ℕ) → are_plain (decimal n) ≡ true
 unfolding digits
 plain_decimal n = digits_are_plain 64 n [] refl
 

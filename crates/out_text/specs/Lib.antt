@@ -1,3 +1,5 @@
+pub mod Events
+pub mod Guesses
 pub mod Headings
 pub mod Rows
 pub mod Lines

@@ -6,8 +6,7 @@ ghost use Rattle.out_text.specs.Lines.{cell_text, hex_pair, mac_text};
 ghost use Rattle.out_text.specs.Rows.{shown_cell};
 
 use crate::row::Shown;
-use acct_types::{CellRef, NoMemory, Octets};
-use itoa::{Buffer, Integer};
+use acct_types::{CellRef, NoMemory, Octets, append_decimal};
 
 /// Appends what is shown, as the table layouts have it.
 #[tactic(auto, unfolding(crate::specs::Lines::cell_text))]
@@ -15,18 +14,12 @@ pub fn append_text(shown: &Shown<'_>, out: &mut Octets) -> Result<(), NoMemory>
     ensures { OnOk result (out.new ≡ out.old ++ cell_text (shown_cell shown.now)) }
 {
     match shown {
-        Shown::Count(number) => append_number(*number, out),
-        Shown::Cell(CellRef::Number(number)) => append_number(*number, out),
+        Shown::Count(number) => append_decimal(*number, out),
+        Shown::Cell(CellRef::Number(number)) => append_decimal(*number, out),
         Shown::Cell(CellRef::Address(address)) => address.append_text(out),
         Shown::Cell(CellRef::Mac(mac)) => append_mac(*mac, out),
         Shown::Cell(CellRef::Words(words)) => out.extend(words),
     }
-}
-
-fn append_number<I: Integer>(number: I, out: &mut Octets) -> Result<(), NoMemory>
-    ensures { OnOk result (out.new ≡ out.old ++ I.text number) }
-{
-    out.extend(Buffer::new().format(number).as_bytes())
 }
 
 #[tactic(auto, unfolding(crate::specs::Lines::mac_text))]

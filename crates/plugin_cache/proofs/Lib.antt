@@ -1,2 +1,3 @@
 mod KeyLemmas
+mod SliceLemmas
 mod SumLemmas

@@ -4,10 +4,7 @@ use Rattle.std.specs.Prelude.{if◌then◌else◌, ◌||◌, ◌&&◌, is_some}
 use Rattle.std.specs.List.{AllByRecursion}
 use Rattle.std.specs.List.Sorted.{IsStrictlySortedBy}
 use Rattle.std.specs.Map.{lookup}
-use Rattle.std.specs.Option.{MatchOption}
 use Rattle.std.specs.FinMap.Entries.{find, below_all, is_sorted, same_entries}
-use Rattle.std.proofs.lemmas.Iterator.{YieldsList}
-use Rattle.std.proofs.lemmas.Iterator.Consumers.{YieldsList-from_shown}
 use Rattle.std.proofs.lemmas.Map.Keys.{sorted_head, sorted_tail}
 use Rattle.indexmap.specs.IndexMap.{insert_entry}
 use Rattle.acct_types.specs.declared.flow.Counts.{Counts}
@@ -31,7 +28,7 @@ nothing_last c = counts_same _ _ (omega arith) (omega arith) (omega arith)
 pub nothing_first : (c : Counts) → plus nothing c ≡ c
 nothing_first c = counts_same _ _ (omega arith) (omega arith) (omega arith)
 
-adds_up : (a b c : Counts) → plus (plus a b) c ≡ plus a (plus b c)
+pub adds_up : (a b c : Counts) → plus (plus a b) c ≡ plus a (plus b c)
 adds_up a b c = counts_same _ _ (omega arith) (omega arith) (omega arith)
 
 -- a row for the key, from what it has
@@ -60,6 +57,15 @@ no_key (e ∷ rows) k h = by (key_eq k e.0) h (no_key rows k)
     by : (b : Bool) → cond b (Some e.1) (lookup (key_eq k) rows) ≡ None → (lookup (key_eq k) rows ≡ None → has_key rows k ≡ false) → (b || has_key rows k) ≡ false
     by true h rest = cc h
     by false h rest = rest h
+
+-- a key is there where it has a row
+pub is_found : (rows : Rows) (k : List Cell) → is_some (lookup (key_eq k) rows) ≡ has_key rows k
+is_found [] k = refl
+is_found (e ∷ rows) k = by (key_eq k e.0) (is_found rows k)
+  where
+    by : (b : Bool) → is_some (lookup (key_eq k) rows) ≡ has_key rows k → is_some (cond b (Some e.1) (lookup (key_eq k) rows)) ≡ (b || has_key rows k)
+    by true rest = refl
+    by false rest = rest
 
 pub none_of : {X : Type 0} (o : Option X) → false ≡ is_some o → o ≡ None
 none_of None h = refl
@@ -142,13 +148,6 @@ count_of_entries total entries q = ap (λ (o : Option Counts). unwrap_or o nothi
     by true none = refl
     by false none = sym (none refl)
 
--- one step through rows in order
-abbrev pub row_steps : Rows → Option (List Cell × Counts) → Rows → Type 0
-row_steps s r t = MatchOption r ((s ≡ []) × (t ≡ [])) (λ x. s ≡ x ∷ t)
-
-pub all_rows : (s : Rows) → YieldsList row_steps (λ x. x) s s
-all_rows s = YieldsList-from_shown row_steps (λ x. x) (λ rows. rows) (λ a b h. ap length h.0) (λ a x b h. h) s
-
 -- ---- rows in order
 
 rises : (k : List Cell) (rows : Rows) → AllByRecursion (λ y. key_cmp k y ≡ Less) (keys_in rows) → T (below_all key_cmp k rows)
@@ -197,7 +196,7 @@ all_added-append rows [] next = refl
 all_added-append rows (e ∷ first) next = all_added-append (added rows e.0 e.1) first next
 
 -- a key has what it had, and what is added to it
-count_added : (total : IsTotalOrder key_cmp) (rows : Rows) (k : List Cell) (c : Counts) (q : List Cell)
+pub count_added : (total : IsTotalOrder key_cmp) (rows : Rows) (k : List Cell) (c : Counts) (q : List Cell)
     → count_in (added rows k c) q ≡ (if key_eq q k then plus (count_in rows q) c else count_in rows q)
 count_added total rows k c q = ap (λ (o : Option Counts). unwrap_or o nothing) (row_added total rows k c q) ∙ by (key_eq q k)
   where

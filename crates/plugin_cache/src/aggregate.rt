@@ -1,6 +1,10 @@
-ghost use Rattle.std.specs.Prelude.{◌≡◌, [], OnOk, OnErr, IsOk, IfOk, true};
+ghost use Rattle.std.specs.Prelude.{◌≡◌, ◌≤◌, [], ◌∷◌, OnOk, OnErr, IsOk, IfOk, length, true, vec_capacity};
+ghost use Rattle.std.specs.List.Sorted.{IsStrictlySortedBy};
+ghost use Rattle.std.specs.Map.{lookup};
+ghost use Rattle.acct_types.specs.Cells.{key_cmp, key_eq};
 ghost use Rattle.acct_types.specs.Counts.{CountsFit, plus};
-ghost use Rattle.plugin_cache.specs.Sums.{EntriesAddUp, HaveOnePurge, PurgesConserve};
+ghost use Rattle.indexmap.specs.IndexMap.{spare};
+ghost use Rattle.plugin_cache.specs.Sums.{EntriesAddUp, HaveOnePurge, PurgesConserve, keys_in};
 
 use acct_types::{Counts, Key, List, NoMemory, keys_are_ordered};
 use indexmap::IndexMap;
@@ -23,11 +27,40 @@ impl Model for Aggregate {
     ghost view = { λ a. a.sums.entries };
 }
 
+// Moves the entries into a vector that has room for them.
+fn move_rows(sums: &mut IndexMap<Key, Counts>, rows: &mut Vec<(Key, Counts)>)
+    requires empty { rows.old.items ≡ [] }
+    requires room { length sums.old.entries ≤ vec_capacity rows.old }
+    ensures rows { rows.new.items ≡ sums.old.entries }
+    ensures none { sums.new.entries ≡ [] }
+    ensures room { spare sums.old ≤ spare sums.new }
+{
+    while let Some(row) = sums.pop() {
+        rows.push(row).unwrap();
+    }
+    rows.reverse();
+}
+
+// Takes the rows out in the order of their keys. The map keeps its room.
+fn take_rows(
+    sums: &mut IndexMap<Key, Counts>,
+    alloc: Global,
+) -> Result<List<(Key, Counts)>, NoMemory>
+    ensures order { IfOk result (λ rows. IsStrictlySortedBy key_cmp (keys_in rows)) }
+    ensures same { IfOk result (λ rows. (key : _) → lookup (key_eq key) rows ≡ lookup (key_eq key) sums.old.entries) }
+    ensures none { OnOk result (sums.new.entries ≡ []) }
+    ensures err { OnErr result (sums.new.entries ≡ sums.old.entries) }
+    ensures room { spare sums.old ≤ spare sums.new }
+{
+    keys_are_ordered();
+    let mut rows = Vec::with_capacity(alloc, sums.len())?;
+    sums.sort_keys()?;
+    move_rows(sums, &mut rows);
+    Ok(List::from_vec(rows))
+}
+
 impl Aggregate {
-    ghost use Rattle.acct_types.specs.Cells.{key_cmp, key_eq};
-    ghost use Rattle.plugin_cache.specs.Sums.{added, count_in, has_key, keys_in};
-    ghost use Rattle.std.specs.List.Sorted.{IsStrictlySortedBy};
-    ghost use Rattle.std.specs.Map.{lookup};
+    ghost use Rattle.plugin_cache.specs.Sums.{added, count_in, has_key};
 
     pub fn new(alloc: Global) -> Aggregate
         ensures { result ≡ [] }
@@ -35,6 +68,28 @@ impl Aggregate {
         Aggregate {
             sums: IndexMap::new(alloc),
         }
+    }
+
+    // No sum yet, and room for so many keys.
+    pub(crate) fn with_room(alloc: Global, keys: usize) -> Result<Aggregate, NoMemory>
+        ensures { IfOk result (λ sums. sums ≡ []) }
+    {
+        Ok(Aggregate {
+            sums: IndexMap::with_capacity(alloc, keys)?,
+        })
+    }
+
+    pub(crate) fn len(&self) -> usize
+        ensures { result ≡ length self.now }
+    {
+        self.sums.len()
+    }
+
+    pub(crate) fn has(&self, key: &Key) -> bool
+        ensures { result ≡ has_key self.now key.now }
+    {
+        keys_are_ordered();
+        self.sums.contains_key(key)
     }
 
     /// Adds to the sums of a key. After NoMemory nothing has changed.
@@ -58,10 +113,26 @@ impl Aggregate {
         ensures order { IfOk result (λ rows. IsStrictlySortedBy key_cmp (keys_in rows)) }
         ensures same { IfOk result (λ rows. (key : _) → lookup (key_eq key) rows ≡ lookup (key_eq key) self) }
     {
-        keys_are_ordered();
         let mut sums = self.sums;
-        sums.sort_keys()?;
-        Ok(List::from_vec(sums.into_iter().collect(alloc)?))
+        take_rows(&mut sums, alloc)
+    }
+
+    // The rows in the order of their keys, in whose place one key's sums come. After NoMemory nothing has changed.
+    pub(crate) fn start_over(
+        &mut self,
+        alloc: Global,
+        key: Key,
+        counts: Counts,
+    ) -> Result<List<(Key, Counts)>, NoMemory>
+        ensures order { IfOk result (λ rows. IsStrictlySortedBy key_cmp (keys_in rows)) }
+        ensures same { IfOk result (λ rows. (key : _) → lookup (key_eq key) rows ≡ lookup (key_eq key) self.old) }
+        ensures ok { OnOk result (self.new ≡ (key, counts) ∷ []) }
+        ensures err { OnErr result (self.new ≡ self.old) }
+    {
+        self.sums.reserve(1)?;
+        let rows = take_rows(&mut self.sums, alloc)?;
+        let _replaced = self.sums.insert(key, counts).unwrap();
+        Ok(rows)
     }
 }
 

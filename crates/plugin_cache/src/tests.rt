@@ -1,5 +1,5 @@
-use crate::Aggregate;
-use acct_types::{Addr, Counts, Key, NoMemory};
+use crate::{Aggregate, Cache};
+use acct_types::{Addr, Counts, Item, Key, NoMemory};
 use std::alloc::Global;
 use std::test::Fail;
 
@@ -27,5 +27,43 @@ fn one_key_has_one_row(rt: HostRuntime) -> Result<(), Fail> {
     };
     assert!(rt; *found == key(alloc, 9)?);
     assert_eq!(rt; *summed, counts);
+    Ok(())
+}
+
+#[test]
+fn one_item_is_purged_at_the_end(rt: HostRuntime) -> Result<(), Fail> {
+    let alloc = rt.alloc();
+    let mut cache = Cache::open(alloc, Some(1), Some(60))?;
+    let counts = Counts {
+        bytes: 840,
+        packets: 10,
+        flows: 1,
+    };
+    let item = Item {
+        datagram: 1,
+        row: 1,
+        moment: 119_999,
+        key: key(alloc, 9)?,
+        counts,
+    };
+    let purged = cache.add(item)?;
+    assert!(rt; purged.is_none());
+    let Some(purge) = cache.finish()? else {
+        return Err("a purge".into());
+    };
+    let [(found, summed)] = purge.rows.as_slice() else {
+        return Err("one row".into());
+    };
+    assert_eq!(rt; purge.window, 1);
+    assert!(rt; *found == key(alloc, 9)?);
+    assert_eq!(rt; *summed, counts);
+    Ok(())
+}
+
+#[test]
+fn an_empty_cache_has_no_purge(rt: HostRuntime) -> Result<(), Fail> {
+    let cache = Cache::open(rt.alloc(), Some(16_384), None)?;
+    let purged = cache.finish()?;
+    assert!(rt; purged.is_none());
     Ok(())
 }

@@ -1,1 +1,13 @@
+pub mod AgentLines
+pub mod Causes
+pub mod Conditions
+pub mod Judging
+pub mod Keys
 pub mod Labels
+pub mod Members
+pub mod Networks
+pub mod Rules
+pub mod SamplingLines
+pub mod TagRules
+pub mod Values
+pub mod Views

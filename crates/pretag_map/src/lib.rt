@@ -2,15 +2,25 @@
 #![tactic(auto)]
 
 mod agent_map;
+mod condition;
 mod facts;
+mod fault;
+mod judge;
+mod keys;
 mod label;
+mod member;
+mod rib;
+mod rules;
 mod sampling_map;
 mod tag_map;
 #[cfg(test)]
 mod tests;
+mod value;
 
-pub use agent_map::{AgentLine, AgentMap};
+pub use agent_map::{AgentMap, read_agent_map};
 pub use facts::{TagFacts, Tags};
+pub use fault::{MapCause, MapFault};
 pub use label::{is_label, labels_are_plain};
-pub use sampling_map::{SamplingLine, SamplingMap};
-pub use tag_map::{TagMap, TagRule};
+pub use rib::{Rib, Side};
+pub use sampling_map::{SamplingMap, read_sampling_map};
+pub use tag_map::{TagMap, read_map};

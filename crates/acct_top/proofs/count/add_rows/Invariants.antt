@@ -5,8 +5,8 @@ use Rattle.plugin_cache.specs.Sums.{all_added}
 use Rattle.acct_top.proofs.count.add_rows.Given as goal
 
 -- the records so far were added
-abbrev pub invariant-loop-row : goal.invariant-loop-row
-invariant-loop-row l = record {
-  sums : l.sums ≡ all_added l.fn.sums (entries_of l.job l.moment (take l.row-index l.rows));
-  bounded : IsBounded l.sums (l.counted + l.row-index);
+abbrev pub invariant-loop-flow : goal.invariant-loop-flow
+invariant-loop-flow l = record {
+  sums : l.sums ≡ all_added l.fn.sums (entries_of l.job l.moment (take l.flow-index l.rows));
+  bounded : IsBounded l.sums (l.counted + l.flow-index);
 }

@@ -1,0 +1,10 @@
+//! From the datagrams of all exporters to their records, by what their earlier datagrams told.
+#![tactic(auto)]
+
+mod counting;
+mod decoder;
+pub mod laws;
+#[cfg(test)]
+mod tests;
+
+pub use decoder::{Decoded, Decoder, FeedFault};

@@ -1,0 +1,6 @@
+pub mod Fields
+pub mod Layout
+pub mod Rates
+pub mod Records
+pub mod Saying
+pub mod Sets

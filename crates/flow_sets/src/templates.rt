@@ -1,0 +1,92 @@
+//! Template sets (RFC 3954, 5.2 and 6.1, and RFC 7011, 3.4.1 and 3.4.2).
+
+ghost use Rattle.std.specs.Prelude.{◌≡◌, ◌⊎◌, ◌≢◌, ◌≤◌, length, IfErr, IfOk, OnOk, Ok, Err};
+ghost use Rattle.flow_templates.specs.declared.template.TemplateFault.TheVariants as fault;
+ghost use Rattle.flow_templates.specs.Changes.{and_change};
+ghost use Rattle.flow_templates.specs.Templates.{DefinesAccepted, template_record};
+ghost use Rattle.flow_sets.specs.Saying.{Adds, so_far};
+ghost use Rattle.flow_sets.specs.Sets.{Refuses, change_of, templates_said};
+
+use acct_types::NoMemory;
+use acct_types::numbers::after;
+use flow_templates::{
+    Cause, Domain, Staged, TemplateFault, TemplateTurn, TemplateWhat, Undecodable,
+    read_options_template, read_template,
+};
+use std::alloc::Global;
+
+fn refused(fault: TemplateFault) -> Undecodable
+    ensures { Refuses result fault }
+{
+    match fault {
+        TemplateFault::TemplateId => Undecodable::Refused(Cause::TemplateId),
+        TemplateFault::TemplateCut => Undecodable::Refused(Cause::TemplateCut),
+        TemplateFault::TemplateEmpty => Undecodable::Refused(Cause::TemplateEmpty),
+        TemplateFault::FieldWidth => Undecodable::Refused(Cause::FieldWidth),
+        TemplateFault::ScopeCount => Undecodable::Refused(Cause::ScopeCount),
+        TemplateFault::NoMemory => Undecodable::NoMemory,
+    }
+}
+
+// Notes what a template record changes.
+fn stage(
+    staged: &mut Staged,
+    domain: &Domain,
+    options: bool,
+    turn: TemplateTurn,
+) -> Result<(), NoMemory>
+    requires { DefinesAccepted domain.now.version turn.what }
+    ensures { OnOk result (staged.new ≡ and_change staged.old (change_of domain.now options turn)) }
+{
+    let id = turn.id;
+    match turn.what {
+        TemplateWhat::Defined(template) => staged.put(domain, id, template),
+        TemplateWhat::Withdrawn => staged.withdraw(domain, id),
+        TemplateWhat::AllWithdrawn => staged.withdraw_all(domain, options),
+    }
+}
+
+// The record at the front of the octets of a set.
+fn read_turn(
+    alloc: Global,
+    version: u16,
+    options: bool,
+    octets: &[u8],
+) -> Result<TemplateTurn, TemplateFault>
+    requires { (version ≡ 9) ⊎ (version ≡ 10) }
+    ensures ok { IfOk result (λ turn. template_record version options octets.now ≡ Ok turn) }
+    ensures err { IfErr result (λ one. one ≢ fault.NoMemory → template_record version options octets.now ≡ Err one) }
+    ensures accepted { IfOk result (λ turn. DefinesAccepted version turn.what) }
+    ensures least { IfOk result (λ turn. 4 ≤ turn.used) }
+    ensures within { IfOk result (λ turn. turn.used ≤ length octets.now) }
+{
+    if options {
+        read_options_template(alloc, version, octets)
+    } else {
+        read_template(alloc, version, octets)
+    }
+}
+
+/// Stages the changes of the records of a template set.
+pub(crate) fn read_templates(
+    alloc: Global,
+    staged: &mut Staged,
+    domain: &Domain,
+    options: bool,
+    octets: &[u8],
+) -> Result<(), Undecodable>
+    requires { (domain.now.version ≡ 9) ⊎ (domain.now.version ≡ 10) }
+    ensures { (decoded : _) → Adds result (so_far decoded staged.old) (so_far decoded staged.new) (templates_said domain.now options octets.now) }
+{
+    let mut rest = octets;
+    while rest.len() >= 4 {
+        let turn = match read_turn(alloc, domain.version, options, rest) {
+            Ok(turn) => turn,
+            Err(fault) => return Err(refused(fault)),
+        };
+        let used = turn.used as usize;
+        stage(staged, domain, options, turn)?;
+        rest = after(rest, used);
+    }
+    Ok(())
+}

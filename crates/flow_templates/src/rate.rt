@@ -1,0 +1,131 @@
+ghost use Rattle.std.specs.Prelude.{◌≡◌, ◌∷◌, ◌≤◌, [], length, OnOk, OnErr};
+ghost use Rattle.std.specs.Option.{option_copied};
+ghost use Rattle.indexmap.specs.IndexMap.{spare};
+ghost use Rattle.flow_templates.specs.Keys.{rate_key_of};
+ghost use Rattle.flow_templates.specs.Known.{LearnsAll, RatesAddUp, learned_of, rate_found, rate_learned, same_rate_key};
+
+use crate::Domain;
+use acct_types::NoMemory;
+use indexmap::IndexMap;
+use std::alloc::Global;
+use std::marker::Model;
+
+/// What a sampling rate that an exporter taught is found by: its domain, and the number of the sampler, None for the rate
+/// without a sampler.
+#[derive(Clone, Copy, Debug, PartialEq, Eq, Hash)]
+pub struct RateKey {
+    pub domain: Domain,
+    pub sampler: Option<u64>,
+}
+
+impl RateKey {
+    pub fn new(domain: &Domain, sampler: Option<u64>) -> RateKey
+        ensures { result ≡ rate_key_of domain.now sampler }
+    {
+        RateKey {
+            domain: *domain,
+            sampler,
+        }
+    }
+}
+
+/// A sampling rate as an option record taught it.
+#[derive(Clone, Copy, Debug, PartialEq, Eq)]
+pub struct LearnedRate {
+    pub key: RateKey,
+    pub rate: u32,
+}
+
+#[tactic(auto, using(crate::proofs::RateLemmas::rate_keys_same))]
+fn is_same_key(a: &RateKey, b: &RateKey) -> bool
+    ensures { result ≡ same_rate_key a.now b.now }
+{
+    *a == *b
+}
+
+impl LearnedRate {
+    /// The rate under a key after this one was learned, where `before` was there.
+    pub(crate) fn after(&self, key: &RateKey, before: Option<u32>) -> Option<u32>
+        ensures { result ≡ rate_learned self.now key.now before }
+    {
+        if is_same_key(&self.key, key) {
+            Some(self.rate)
+        } else {
+            before
+        }
+    }
+}
+
+/// The sampling rates that were learned last, which contracts see as their entries: what counts is what is found under a key.
+#[derive(Drop)]
+pub struct OptionStore {
+    rates: IndexMap<RateKey, u32>,
+}
+
+impl Model for OptionStore {
+    ghost use Rattle.std.specs.Prelude.{ℕ, List as Sequence};
+    ghost use Rattle.flow_templates.specs.declared.rate.RateKey.{RateKey};
+
+    ghost Value = { Sequence (RateKey × ℕ) };
+
+    ghost view = { λ store. store.rates.entries };
+}
+
+// Learns rates, in their order, for which there is room.
+fn learn_all(rates: &mut IndexMap<RateKey, u32>, learned: &[LearnedRate])
+    requires { length learned.now ≤ spare rates.old }
+    ensures { LearnsAll rates.old.entries rates.new.entries learned.now }
+{
+    for one in learned {
+        let _replaced = rates.insert(one.key, one.rate).unwrap();
+    }
+}
+
+impl OptionStore {
+    /// No rate, which takes no memory.
+    pub fn new(alloc: Global) -> OptionStore
+        ensures { result ≡ [] }
+    {
+        OptionStore {
+            rates: IndexMap::new(alloc),
+        }
+    }
+
+    /// Keeps a rate in place of the one of that domain and sampler. After NoMemory the store is unchanged.
+    pub fn learn(
+        &mut self,
+        domain: &Domain,
+        sampler: Option<u64>,
+        rate: u32,
+    ) -> Result<(), NoMemory>
+        ensures ok { OnOk result (LearnsAll self.old self.new (learned_of domain.now sampler rate ∷ [])) }
+        ensures err { OnErr result (self.new ≡ self.old) }
+    {
+        let key = RateKey::new(domain, sampler);
+        self.rates.insert(key, rate)?;
+        Ok(())
+    }
+
+    /// The rate of a domain and sampler, None exactly where none is kept.
+    pub fn rate(&self, domain: &Domain, sampler: Option<u64>) -> Option<u32>
+        ensures { result ≡ rate_found self.now (rate_key_of domain.now sampler) }
+    {
+        let key = RateKey::new(domain, sampler);
+        self.rates.get(&key).copied()
+    }
+
+    /// Learns rates, one behind another: all of them, or none after NoMemory.
+    pub(crate) fn learn_all(&mut self, learned: &[LearnedRate]) -> Result<(), NoMemory>
+        ensures ok { OnOk result (LearnsAll self.old self.new learned.now) }
+        ensures err { OnErr result (self.new ≡ self.old) }
+    {
+        self.rates.reserve(learned.len())?;
+        learn_all(&mut self.rates, learned);
+        Ok(())
+    }
+}
+
+/// A law: of the rates that were learned under a key the last one counts.
+pub fn rates_add_up()
+    ensures { RatesAddUp }
+{}

@@ -1,0 +1,11 @@
+use Rattle.std.proofs.Common.{◌≡◌, map, drop}
+use Rattle.std.specs.List.{list_all}
+use Rattle.pretag_map.specs.Judging.{is_known}
+use Rattle.pretag_map.specs.Keys.{row_view}
+use Rattle.pretag_map.specs.Views.{member_view}
+use Rattle.pretag_map.proofs.judge.are_known.Given as goal
+
+abbrev pub invariant-loop-member : goal.invariant-loop-member
+invariant-loop-member l =
+    list_all (is_known (map row_view l.rows)) (map member_view (drop l.member-index l.members))
+    ≡ list_all (is_known (map row_view l.rows)) (map member_view l.members)

@@ -1,0 +1,10 @@
+//! Reads a capture of sFlow datagrams, and writes their counters.
+#![tactic(auto)]
+
+use config_keys::Tool;
+use std::process::ExitCode;
+
+fn main(rt: HostRuntime) -> ExitCode {
+    let out = rt.stdout();
+    ExitCode::from(program::run(rt, Tool::Sfacctd, out))
+}

@@ -1,0 +1,4 @@
+pub mod PieceLemmas
+pub mod RecordLemmas
+pub mod SampleLemmas
+pub mod Accepted

@@ -1,0 +1,5 @@
+pub mod Xdr
+pub mod SampledHeader
+pub mod FlowRecords
+pub mod Samples
+pub mod Datagram
