@@ -1,0 +1,35 @@
+-- Paths, one segment and one number after another.
+use Rattle.std.proofs.Common.{◌≡◌, ◌≤◌, ◌<◌, ◌+◌, ◌-◌, ◌*◌, ◌∙◌, ◌∷◌, ◌++◌, [], ℕ, suc, false, true, List, length, take, drop, length-drop, refl, sym, ap, arith}
+use Rattle.std.proofs.Math.Nat.{mul-suc}
+use Rattle.std.specs.Prelude.{◌==◌, Bool}
+use Rattle.acct_types.specs.Numbers.{number_at}
+use Rattle.bgp_msg.specs.Pieces.{pieces}
+use Rattle.bgp_msg.specs.Paths.{all_hops, hops_of, numbers_of, path_of, segment_size}
+use Rattle.bgp_msg.proofs.PieceLemmas.{HasSize, pieces_end, pieces_next}
+
+pub has_size : (wide : Bool) → HasSize (segment_size wide)
+unfolding segment_size
+has_size wide octets = omega arith
+
+pub numbers_next : (width count i : ℕ) (octets : List ℕ) → i < count
+    → numbers_of width (count - i) octets ≡ number_at octets 0 width ∷ numbers_of width (count - (i + 1)) (drop width octets)
+numbers_next width count i octets h =
+    let left : count - i ≡ suc (count - (i + 1)) = omega (arith, h) in
+    rw left refl
+
+pub path_next : (wide : Bool) (n : ℕ) (octets segment rest : List ℕ) → false ≡ (length octets == 0) → n ≡ segment_size wide octets → segment ≡ take n octets → rest ≡ drop n octets
+    → path_of wide octets ≡ hops_of wide segment ++ path_of wide rest
+path_next wide n octets segment rest h is front behind = rw (pieces_next (segment_size wide) n octets segment rest (has_size wide) h is front behind) refl
+
+pub path_end : (wide : Bool) (octets : List ℕ) → true ≡ (length octets == 0) → path_of wide octets ≡ []
+path_end wide octets h = rw (pieces_end (segment_size wide) octets h) refl
+
+-- where there is room for the numbers that are left, there is room for the next one, and behind it for the others
+pub room_next : (width count i : ℕ) (octets : List ℕ) → i < count → width * (count - i) ≤ length octets
+    → (width ≤ length octets) × (width * (count - (i + 1)) ≤ length (drop width octets))
+room_next width count i octets h room =
+    let left : count - i ≡ suc (count - (i + 1)) = omega (arith, h) in
+    let more : width * suc (count - (i + 1)) ≤ length octets = rw left at room in
+    let sum : width * suc (count - (i + 1)) ≡ width * (count - (i + 1)) + width = mul-suc width (count - (i + 1)) in
+    let dropped = length-drop width octets in
+    (omega (arith, more, sum), omega (arith, more, sum, dropped))

@@ -1,0 +1,11 @@
+pub mod Attributes
+pub mod Families
+pub mod Frames
+pub mod Messages
+pub mod Opens
+pub mod Paths
+pub mod Pieces
+pub mod Prefixes
+pub mod Routes
+pub mod Updates
+pub mod Written

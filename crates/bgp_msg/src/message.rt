@@ -1,0 +1,89 @@
+ghost use Rattle.std.specs.Prelude.{◌≡◌};
+
+use acct_types::{Addr, List, NoMemory, Prefix, RouteAttrs};
+
+/// What the two sides of a session agreed on for its UPDATEs.
+#[derive(Clone, Copy, Debug, PartialEq, Eq)]
+pub struct Agreed {
+    /// Numbers of autonomous systems have four octets in AS_PATH, and not two (RFC 6793).
+    pub four_octets: bool,
+    /// Prefixes of IPv4 have path identifiers (RFC 7911). They aren't read yet: the flag changes nothing.
+    pub path_ids_v4: bool,
+    /// Prefixes of IPv6 have path identifiers. They aren't read yet: the flag changes nothing.
+    pub path_ids_v6: bool,
+}
+
+/// Why a message is refused: code and subcode of the NOTIFICATION that answers it (RFC 4271, 4.5), and where in the message the
+/// fault is, in octets from 0.
+#[derive(Clone, Copy, Debug, PartialEq, Eq)]
+pub struct BgpFault {
+    pub code: u8,
+    pub subcode: u8,
+    pub place: u32,
+}
+
+/// What an OPEN says (RFC 4271, 4.2).
+#[derive(Clone, Copy, Debug, PartialEq, Eq)]
+pub struct Hello {
+    /// The peer's autonomous system: that of its last capability of four-octet numbers, else that of the field.
+    pub asn: u32,
+    /// The proposed hold time in seconds, 0 or at least 3.
+    pub hold: u16,
+    /// The BGP identifier.
+    pub id: u32,
+    /// The peer has the capability of four-octet numbers (RFC 6793).
+    pub four_octets: bool,
+    /// The peer sends path identifiers for IPv4. That capability isn't read yet, so this is false.
+    pub path_ids_v4: bool,
+    /// The peer sends path identifiers for IPv6. That capability isn't read yet, so this is false.
+    pub path_ids_v6: bool,
+}
+
+/// A prefix as a message names it (RFC 4271, 4.3), with its path identifier, 0 where it has none.
+#[derive(Clone, Copy, Debug, PartialEq, Eq)]
+pub struct Nlri {
+    pub prefix: Prefix,
+    pub path_id: u32,
+}
+
+/// A prefix that is announced, and its next hop.
+#[derive(Clone, Copy, Debug, PartialEq, Eq)]
+pub struct Announce {
+    pub nlri: Nlri,
+    pub next_hop: Addr,
+}
+
+/// What an UPDATE says (RFC 4271, 4.3, and RFC 4760). The withdrawals come first: a prefix that stands in both lists is announced.
+#[derive(Debug, PartialEq, Eq, Drop)]
+pub struct Update {
+    pub withdrawn: List<Nlri>,
+    pub announced: List<Announce>,
+    pub attrs: RouteAttrs,
+}
+
+/// A message (RFC 4271, 4).
+#[derive(Debug, PartialEq, Eq, Drop)]
+pub enum BgpMessage {
+    /// OPEN.
+    Hello(Hello),
+    Update(Update),
+    Notification { code: u8, subcode: u8 },
+    Keepalive,
+}
+
+/// Why a message isn't read.
+#[derive(Clone, Copy, Debug, PartialEq, Eq)]
+pub enum BgpRefusal {
+    Fault(BgpFault),
+    NoMemory,
+}
+
+impl From<NoMemory> for BgpRefusal {
+    ghost use Rattle.bgp_msg.specs.declared.message.BgpRefusal.TheVariants as refusal;
+
+    ghost from_gives = { λ _ answer. answer ≡ refusal.NoMemory };
+
+    fn from(_: NoMemory) -> BgpRefusal {
+        BgpRefusal::NoMemory
+    }
+}
