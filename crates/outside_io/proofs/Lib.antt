@@ -1,3 +1,4 @@
 pub mod Octets
 pub mod Causes
 pub mod NamedLemmas
+pub mod SpanLemmas

@@ -7,3 +7,9 @@ pub mod Memory
 pub mod MemoryPlace
 pub mod SayOut
 pub mod FilePlace
+pub mod Inputs
+pub mod RouteEvents
+pub mod Spans
+pub mod CanCome
+pub mod EventQueue
+pub mod MemoryInputs

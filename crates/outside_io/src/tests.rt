@@ -1,8 +1,9 @@
 use crate::{
-    Begin, FilePlace, IoFault, MemoryPlace, MemorySink, MemorySource, Place, Sink, Source,
-    read_all, read_name, write_all,
+    Act, Begin, Datagrams, FilePlace, Flag, InputFault, IoFault, MemoryFlows, MemoryPlace,
+    MemorySessions, MemorySink, MemorySource, NoRoutes, Place, RouteEvent, Sessions, Side, Sink,
+    Source, can_come, read_all, read_name, write_all,
 };
-use acct_types::{List, Octets, Text};
+use acct_types::{Addr, Datagram, List, Octets, Text};
 use std::alloc::Global;
 use std::fs::remove_file;
 use std::test::Fail;
@@ -181,5 +182,150 @@ fn files_are_written_and_read(rt: HostRuntime) -> Result<(), Fail> {
             b"failed"
         )
     );
+    Ok(())
+}
+
+// A datagram of one octet, which is the last digit of its moment.
+fn datagram_at(alloc: Global, moment: u64) -> Result<Datagram, Fail> {
+    Ok(Datagram {
+        moment,
+        exporter: Addr::V4(1),
+        port: 2055,
+        octets: Octets::from_slice(alloc, &[b'0' + (moment % 10) as u8])?,
+    })
+}
+
+// What comes of some calls of an input: the octets of each event, or a mark.
+fn handed_out<D: Datagrams>(alloc: Global, input: &mut D, calls: u8) -> Result<Octets, Fail> {
+    let mut got = Octets::new(alloc);
+    for _ in 0..calls {
+        match input.next() {
+            Ok(Some(datagram)) => got.extend(datagram.octets.as_slice())?,
+            Ok(None) => got.push(b'.')?,
+            Err(InputFault::ReadFault) => got.push(b'!')?,
+            Err(_) => got.push(b'?')?,
+        }
+    }
+    Ok(got)
+}
+
+#[test]
+fn datagrams_come_in_order_and_some_calls_fail(rt: HostRuntime) -> Result<(), Fail> {
+    let alloc = rt.alloc();
+    let failing: [&[u64]; 3] = [&[], &[2, 5], &[1, 2, 6]];
+    let wanted: [&[u8]; 3] = [b"1223...", b"1!22!3.", b"!!122!3"];
+    for i in 0..3 {
+        let mut datagrams = List::new(alloc);
+        for moment in [1, 2, 2, 3] {
+            datagrams.push(datagram_at(alloc, moment)?)?;
+        }
+        if !can_come(datagrams.as_slice()) {
+            return Err("these can come".into());
+        }
+        let mut flows = MemoryFlows::new(datagrams, List::from_slice(alloc, failing[i])?);
+        let got = handed_out(alloc, &mut flows, 7)?;
+        assert!(rt; same(got.as_slice(), wanted[i]));
+    }
+    Ok(())
+}
+
+#[test]
+fn events_that_go_back_or_are_too_long_cannot_come(rt: HostRuntime) -> Result<(), Fail> {
+    let alloc = rt.alloc();
+    let lengths = [65_535, 65_536, 0, 0];
+    let moments = [7, 7, 6, 7];
+    let wanted = [true, false, false, true];
+    for i in 0..4 {
+        let octets = Octets::from_vec(Vec::from_elem(alloc, 0, lengths[i])?);
+        let mut events = List::new(alloc);
+        events.push(event_of(7, Act::Tick))?;
+        events.push(event_of(moments[i], Act::Bytes(octets)))?;
+        assert!(rt; can_come(events.as_slice()) == wanted[i]);
+    }
+    Ok(())
+}
+
+fn event_of(moment: u64, act: Act) -> RouteEvent {
+    RouteEvent {
+        moment,
+        side: Side::Bmp,
+        address: Addr::V6(9),
+        port: 179,
+        act,
+    }
+}
+
+// What comes of some calls of an input: the first letter of each event, or a mark.
+fn acts<S: Sessions>(alloc: Global, input: &mut S, calls: u8) -> Result<Octets, Fail> {
+    let mut got = Octets::new(alloc);
+    for _ in 0..calls {
+        match input.next() {
+            Ok(Some(event)) => match event.act {
+                Act::Up => got.push(b'u')?,
+                Act::Bytes(octets) => got.extend(octets.as_slice())?,
+                Act::Down => got.push(b'd')?,
+                Act::Tick => got.push(b't')?,
+            },
+            Ok(None) => got.push(b'.')?,
+            Err(InputFault::ReadFault) => got.push(b'!')?,
+            Err(_) => got.push(b'?')?,
+        }
+    }
+    Ok(got)
+}
+
+#[test]
+fn sessions_give_their_events_and_keep_the_replies(rt: HostRuntime) -> Result<(), Fail> {
+    let alloc = rt.alloc();
+    let mut events = List::new(alloc);
+    events.push(event_of(5, Act::Up))?;
+    events.push(event_of(6, Act::Bytes(Octets::from_slice(alloc, b"xy")?)))?;
+    events.push(event_of(6, Act::Tick))?;
+    events.push(event_of(9, Act::Down))?;
+    if !can_come(events.as_slice()) {
+        return Err("these can come".into());
+    }
+    let failing_next = List::from_slice(alloc, &[3])?;
+    let failing_replies = List::from_slice(alloc, &[1, 3])?;
+    let mut sessions = MemorySessions::new(alloc, events, failing_next, failing_replies);
+    let got = acts(alloc, &mut sessions, 3)?;
+    assert!(rt; same(got.as_slice(), b"uxy!"));
+    let replies: [&[u8]; 4] = [b"a", b"b", b"c", b"d"];
+    for i in 0..4 {
+        let octets = Octets::from_slice(alloc, replies[i])?;
+        let answer = answer_of(sessions.reply(Side::Bgp, &Addr::V4(3), &octets));
+        assert!(rt; same(answer, if i == 0 || i == 2 { b"failed" } else { b"ok" }));
+    }
+    let got = acts(alloc, &mut sessions, 4)?;
+    assert!(rt; same(got.as_slice(), b"td.."));
+    let sent = sessions.sent().as_slice();
+    assert!(rt; sent.len() == 2);
+    for (reply, octets) in sent.iter().zip([b"b", b"d"]) {
+        assert!(rt; reply.side == Side::Bgp && reply.address == Addr::V4(3));
+        assert!(rt; same(reply.octets.as_slice(), octets));
+    }
+    Ok(())
+}
+
+#[test]
+fn no_routes_end_at_once(rt: HostRuntime) -> Result<(), Fail> {
+    let alloc = rt.alloc();
+    let mut routes = NoRoutes::new(alloc);
+    let got = acts(alloc, &mut routes, 2)?;
+    assert!(rt; same(got.as_slice(), b".."));
+    let answer = answer_of(routes.reply(Side::Bgp, &Addr::V4(3), &Octets::new(alloc)));
+    assert!(rt; same(answer, b"ok"));
+    let stopper = routes.stopper()?;
+    assert!(rt; !stopper.raised());
+    Ok(())
+}
+
+#[test]
+fn copies_of_a_flag_are_one_truth_value(rt: HostRuntime) -> Result<(), Fail> {
+    let flag = Flag::new(rt.alloc())?;
+    let copy = flag.copy()?;
+    assert!(rt; !flag.raised() && !copy.raised());
+    copy.raise();
+    assert!(rt; flag.raised() && copy.raised());
     Ok(())
 }

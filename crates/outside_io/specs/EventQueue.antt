@@ -1,0 +1,18 @@
+-- What a queue of events holds, and which calls fail.
+use Rattle.std.specs.Prelude.{ℕ, List, reverse}
+use Rattle.outside_io.specs.declared.call_plan.CallPlan.{CallPlan}
+use Rattle.outside_io.specs.declared.event_queue.EventQueue.{EventQueue}
+
+-- the events left, the next one first
+abbrev pub queue_left : {T : Type 0} → EventQueue T → List T
+queue_left queue = reverse queue.backwards
+
+-- the moment of the event handed out last, 0 at first
+abbrev pub queue_moment : {T : Type 0} → EventQueue T → ℕ
+queue_moment queue = queue.moment
+
+abbrev pub queue_plan : {T : Type 0} → EventQueue T → CallPlan
+queue_plan queue = queue.plan
+
+abbrev pub queue_faults : {T : Type 0} → EventQueue T → ℕ
+queue_faults queue = queue.faults
