@@ -1,16 +1,22 @@
--- What holds of the datagrams of every capture.
-use Rattle.std.specs.Prelude.{◌≡◌, ◌≤◌, ◌<◌, ◌^◌, ℕ, List, [], ◌∷◌, ◌++◌, ◌+◌, ◌-◌, flat_map, length}
+-- What holds of the events of every capture.
+use Rattle.std.specs.Prelude.{◌≡◌, ◌≤◌, ◌<◌, ◌^◌, ℕ, Bool, List, [], ◌∷◌, ◌++◌, ◌+◌, ◌-◌, flat_map, length, take, drop, Result, Ok}
 use Rattle.acct_types.specs.declared.addr.Addr.{Addr}
 use Rattle.acct_types.specs.declared.addr.Addr.TheVariants.{V4, V6}
 use Rattle.acct_types.specs.declared.datagram.Datagram.{Datagram}
+use Rattle.outside_io.specs.declared.route_event.Side.{Side}
+use Rattle.outside_io.specs.declared.route_event.Side.TheVariants.{Bgp, Bmp}
+use Rattle.outside_io.specs.declared.route_event.Act.{Act}
+use Rattle.outside_io.specs.declared.route_event.Act.TheVariants.{Up, Bytes, Down, Tick}
+use Rattle.outside_io.specs.declared.route_event.RouteEvent.{RouteEvent}
+use Rattle.outside_io.specs.RouteEvents.{act_octets}
 use Rattle.capture_file.specs.declared.flows.CaptureEnd.TheVariants.{Ended}
-use Rattle.capture_file.specs.Capture.{magic, datagrams_of, end_of}
-use Rattle.capture_file.specs.Event.{LONGEST, spelling_of}
+use Rattle.capture_file.specs.Capture.{magic, datagrams_of, end_of, route_events_of, route_end_of}
+use Rattle.capture_file.specs.Event.{LONGEST, judged, spelling_of, route_spelling_of}
 
 -- no moment is below the one before it
-abbrev pub NeverFall : ℕ → List Datagram → Type 0
-NeverFall moment [] = Unit {0}
-NeverFall moment (d ∷ ds) = (moment ≤ d.moment) × NeverFall d.moment ds
+abbrev pub NeverFall : {E : Type 0} → (E → ℕ) → ℕ → List E → Type 0
+NeverFall moment_of moment [] = Unit {0}
+NeverFall moment_of moment (event ∷ events) = (moment ≤ moment_of event) × NeverFall moment_of (moment_of event) events
 
 abbrev pub FitsAddress : Addr → Type 0
 FitsAddress (V4 number) = number < 2 ^ 32
@@ -23,6 +29,21 @@ pub record FitsEvent (d : Datagram) : Type 0 where
   pub port : d.port < 2 ^ 16
   pub octets : length d.octets ≤ LONGEST
 
+-- a tick has the side Bgp
+abbrev pub HasItsSide : Act → Side → Type 0
+HasItsSide Up side = Unit {0}
+HasItsSide (Bytes octets) side = Unit {0}
+HasItsSide Down side = Unit {0}
+HasItsSide Tick side = side ≡ Bgp
+
+-- the same of a route event
+pub record FitsRouteEvent (e : RouteEvent) : Type 0 where
+  pub moment : e.moment < 2 ^ 64
+  pub address : FitsAddress e.address
+  pub port : e.port < 2 ^ 16
+  pub octets : length (act_octets e.act) ≤ LONGEST
+  pub side : HasItsSide e.act e.side
+
 -- Each datagram has at most as many octets as an event may carry, and the events of all, each of 19 octets at least before those of its
 -- datagram, have at most so many.
 abbrev pub FitIn : ℕ → List Datagram → Type 0
@@ -33,7 +54,22 @@ FitIn most (d ∷ ds) = (length d.octets ≤ LONGEST) × (19 + length d.octets �
 abbrev pub spellings_of : List Datagram → List ℕ
 spellings_of ds = flat_map spelling_of ds
 
+-- the octets of the events that route events are written as
+abbrev pub route_spellings_of : List RouteEvent → List ℕ
+route_spellings_of es = flat_map route_spelling_of es
+
 -- a capture of these datagrams is read as these datagrams, to its end
 pub record ReadsBack (most : ℕ) (ds : List Datagram) : Type 0 where
   pub datagrams : datagrams_of most (magic ++ spellings_of ds) ≡ ds
   pub end : end_of most (magic ++ spellings_of ds) ≡ Ended
+
+-- a capture of these route events is read as these route events, to its end
+pub record ReadsRoutesBack (most : ℕ) (es : List RouteEvent) : Type 0 where
+  pub events : route_events_of most (magic ++ route_spellings_of es) ≡ es
+  pub end : route_end_of most (magic ++ route_spellings_of es) ≡ Ended
+
+-- Whatever follows it, an event stands at the front of its spelling, and is read as itself.
+pub record IsReadAgain {E : Type 0} (flows : Bool) (read : ℕ → List ℕ → E) (spelling : List ℕ) (event : E) (moment most used : ℕ) (later : List ℕ) : Type 0 where
+  pub whole : judged flows most used (spelling ++ later) ≡ Ok (length spelling)
+  pub same : read moment (take (length spelling) (spelling ++ later)) ≡ event
+  pub rest : drop (length spelling) (spelling ++ later) ≡ later

@@ -1,3 +1,10 @@
 pub mod Event
 pub mod Capture
 pub mod Laws
+pub mod Standing
+pub mod Window
+pub mod Holds
+pub mod Looked
+pub mod Reading
+pub mod Reader
+pub mod Inputs

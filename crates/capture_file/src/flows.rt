@@ -30,7 +30,8 @@ pub struct FlowCapture {
     pub end: CaptureEnd,
 }
 
-fn has_magic(octets: &[u8]) -> bool
+/// Whether octets begin with the magic.
+pub fn has_magic(octets: &[u8]) -> bool
     ensures { result ≡ has_magic octets.now }
 {
     octets.len() >= 8 && &octets[..8] == b"PMACAP01".as_slice()
@@ -54,7 +55,7 @@ pub fn split_flows(alloc: Global, octets: &[u8], most: u64) -> Result<FlowCaptur
     let mut used = 0;
     let mut rest = after(octets, 8);
     loop {
-        match judge(rest, used, most) {
+        match judge(true, rest, used, most) {
             Err(end) => return Ok(FlowCapture { datagrams, end }),
             Ok(width) => {
                 let (event, later) = rest.split_at(width);

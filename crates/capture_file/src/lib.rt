@@ -1,11 +1,20 @@
-//! Captures: datagrams with their moments and exporters, kept in a file.
+//! Captures: datagrams or route events with their moments and peers, kept in a file.
 #![tactic(auto)]
 
 mod event;
 mod flows;
+mod inputs;
 pub mod laws;
+mod read_event;
+mod reader;
+mod reading;
+mod window;
+mod write;
 
 pub use flows::{CaptureEnd, FlowCapture, split_flows};
+pub use inputs::{CaptureFlows, CaptureRoutes};
+pub use reader::{CaptureReader, Step};
+pub use write::{write_flow, write_magic, write_route};
 
 #[cfg(test)]
 mod tests;

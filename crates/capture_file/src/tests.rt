@@ -1,5 +1,12 @@
-use crate::{CaptureEnd, FlowCapture, split_flows};
-use acct_types::{Addr, Datagram, List, NoMemory};
+ghost use Rattle.std.specs.Prelude.{◌≤◌, length, IfOk};
+ghost use Rattle.outside_io.specs.RouteEvents.{act_octets};
+
+use crate::{
+    CaptureEnd, CaptureFlows, CaptureReader, CaptureRoutes, FlowCapture, Step, split_flows,
+    write_flow, write_magic, write_route,
+};
+use acct_types::{Addr, Datagram, List, NoMemory, Octets};
+use outside_io::{Act, Datagrams, InputFault, MemorySource, RouteEvent, Sessions, Side, Source};
 use std::alloc::Global;
 use std::test::Fail;
 
@@ -31,6 +38,58 @@ fn read(alloc: Global, parts: &[&[u8]], most: u64) -> Result<FlowCapture, NoMemo
 
 fn is_datagram(d: &Datagram, moment: u64, exporter: Addr, port: u16, octets: &[u8]) -> bool {
     d.moment == moment && d.exporter == exporter && d.port == port && d.octets.as_slice() == octets
+}
+
+// What an input of flows hands out, and the fault that ends it.
+fn read_flows(
+    alloc: Global,
+    octets: &Octets,
+    each: u64,
+    most: u64,
+) -> Result<(List<Datagram>, Option<InputFault>), NoMemory> {
+    let source = MemorySource::new(octets.copy()?, each.max(1), List::new(alloc));
+    let most = most.min(u64::MAX - 8);
+    let mut flows = CaptureFlows::new(CaptureReader::new(alloc, source, true, most));
+    let mut datagrams = List::new(alloc);
+    let mut end = Some(InputFault::NoMemory);
+    for _ in 0..1000u16 {
+        match flows.next() {
+            Ok(Some(datagram)) => datagrams.push(datagram)?,
+            Ok(None) => {
+                end = None;
+                break;
+            }
+            Err(fault) => {
+                end = Some(fault);
+                break;
+            }
+        }
+    }
+    Ok((datagrams, end))
+}
+
+fn as_fault(end: CaptureEnd) -> Option<InputFault> {
+    match end {
+        CaptureEnd::Ended => None,
+        CaptureEnd::BadMagic => Some(InputFault::BadMagic),
+        CaptureEnd::BadKind { place } => Some(InputFault::BadKind { place }),
+        CaptureEnd::Torn { place } => Some(InputFault::Torn { place }),
+        CaptureEnd::TooLong { place } => Some(InputFault::TooLong { place }),
+        CaptureEnd::TooMany => Some(InputFault::TooMany),
+    }
+}
+
+fn is_same(capture: &FlowCapture, steps: &(List<Datagram>, Option<InputFault>)) -> bool {
+    let whole = capture.datagrams.as_slice();
+    let (datagrams, fault) = steps;
+    let same = whole.iter().zip(datagrams.as_slice()).all(|(a, b)| is_datagram(
+        a,
+        b.moment,
+        b.exporter,
+        b.port,
+        b.octets.as_slice(),
+    ));
+    same && whole.len() == datagrams.len() && *fault == as_fault(capture.end)
 }
 
 #[test]
@@ -101,6 +160,14 @@ fn a_capture_ends_where_its_format_says(rt: HostRuntime) -> Result<(), Fail> {
         let capture = read(rt.alloc(), parts, *most).map_err(|_| "no memory")?;
         assert_eq!(rt; capture.datagrams.len(), *count, "case {index}");
         assert_eq!(rt; capture.end, *end, "case {index}");
+        let octets = joined(rt.alloc(), parts).map_err(|_| "no memory")?;
+        for each in [1, 7, 1000] {
+            let steps = read_flows(rt.alloc(), &octets, each, *most).map_err(|_| "no memory")?;
+            assert!(rt;
+                is_same(&capture, &steps),
+                "case {index}, {each} octets a read"
+            );
+        }
     }
     Ok(())
 }
@@ -142,5 +209,234 @@ fn a_capture_of_one_export(rt: HostRuntime) -> Result<(), Fail> {
     assert_eq!(rt; capture.end, CaptureEnd::Ended);
     let capture = split_flows(rt.alloc(), ONE_EXPORT, 90).map_err(|_| "no memory")?;
     assert_eq!(rt; capture.end, CaptureEnd::TooMany);
+    Ok(())
+}
+
+#[test]
+fn a_capture_of_one_export_is_torn_at_each_octet(rt: HostRuntime) -> Result<(), Fail> {
+    for cut in 0..99 {
+        if cut > ONE_EXPORT.len() {
+            break;
+        }
+        let octets = List::from_slice(rt.alloc(), &ONE_EXPORT[..cut])?;
+        let wanted = match cut {
+            0..=7 => Some(InputFault::BadMagic),
+            8 => None,
+            _ => Some(InputFault::Torn { place: 8 }),
+        };
+        for each in [1, 1000] {
+            let (datagrams, fault) = read_flows(rt.alloc(), &octets, each, 91)?;
+            assert!(rt; datagrams.is_empty() && fault == wanted, "cut at {cut}");
+        }
+    }
+    Ok(())
+}
+
+// How many events a reader hands out, and the fault that ends them.
+fn count_steps(alloc: Global, octets: Octets, most: u64) -> (u64, Option<InputFault>) {
+    let source = MemorySource::new(octets, 64, List::new(alloc));
+    let mut reader = CaptureReader::new(alloc, source, true, most.min(1000));
+    let mut end = None;
+    let mut count = 0u64;
+    for _ in 0..1000u64 {
+        if !reader.live() {
+            break;
+        }
+        match reader.next() {
+            Ok(Step::Flow(_)) | Ok(Step::Route(_)) => count = count.saturating_add(1),
+            Ok(Step::Ended) => {}
+            Err(fault) => end = Some(fault),
+        }
+    }
+    (count, end)
+}
+
+#[test]
+fn an_event_above_the_limit_is_too_many(rt: HostRuntime) -> Result<(), Fail> {
+    for (most, wanted) in [(181, (1, Some(InputFault::TooMany))), (182, (2, None))] {
+        let octets = joined(rt.alloc(), &[ONE_EXPORT, &ONE_EXPORT[8..]])?;
+        assert!(rt; count_steps(rt.alloc(), octets, most) == wanted);
+    }
+    Ok(())
+}
+
+#[test]
+fn a_failed_read_loses_no_octet(rt: HostRuntime) -> Result<(), Fail> {
+    let alloc = rt.alloc();
+    // The capture has 61 octets, so each read but the last gives 7.
+    for failing in 1..10u64 {
+        let octets = joined(alloc, &[MAGIC, SMALL, WIDE])?;
+        let source = MemorySource::new(octets, 7, List::from_slice(alloc, &[failing])?);
+        let mut flows = CaptureFlows::new(CaptureReader::new(alloc, source, true, 1000));
+        let mut count = 0u64;
+        let mut fault = None;
+        for _ in 0..3u8 {
+            match flows.next() {
+                Ok(Some(_)) => count = count.saturating_add(1),
+                Ok(None) => break,
+                Err(met) => {
+                    fault = Some(met);
+                    break;
+                }
+            }
+        }
+        assert!(rt; fault == Some(InputFault::ReadFault));
+        assert!(rt;
+            count
+                == if failing < 5 {
+                    0
+                } else if failing < 10 {
+                    1
+                } else {
+                    2
+                }
+        );
+        assert!(rt; matches!(flows.next(), Err(InputFault::NoMemory)));
+        let mut source = flows.into_source();
+        assert!(rt; source.left_len() as u64 == 61u64.saturating_sub(7 * (failing - 1)));
+        let mut buf = [0u8; 1];
+        assert!(rt; source.read(&mut buf).is_ok());
+    }
+    Ok(())
+}
+
+// What of a route event stands behind its kind, with no octets: 1000 ms, 192.0.2.1 or 2001:db8::1, port 50000.
+const FROM_V4: &[u8] = b"\0\0\0\0\0\0\x03\xe8\xc0\0\x02\x01\xc3\x50\0\0\0";
+
+const FROM_V6: &[u8] =
+    b"\0\0\0\0\0\0\x03\xe8\x20\x01\x0d\xb8\0\0\0\0\0\0\0\0\0\0\0\x01\xc3\x50\0\0\0";
+
+fn route_event(alloc: Global, high: u8, address: Addr) -> Result<RouteEvent, NoMemory>
+    ensures { IfOk result (λ event. length (act_octets event.act) ≤ 65535) }
+{
+    let side = if matches!(high, 4..=6) {
+        Side::Bmp
+    } else {
+        Side::Bgp
+    };
+    let act = match high {
+        1 | 4 => Act::Up,
+        2 | 5 => Act::Bytes(List::from_slice(alloc, &[7, 8])?),
+        3 | 6 => Act::Down,
+        _ => Act::Tick,
+    };
+    Ok(RouteEvent {
+        moment: 1000,
+        side,
+        address,
+        port: 50000,
+        act,
+    })
+}
+
+fn is_same_act(one: &Act, other: &Act) -> bool {
+    match (one, other) {
+        (Act::Bytes(a), Act::Bytes(b)) => a == b,
+        (Act::Up, Act::Up) | (Act::Down, Act::Down) | (Act::Tick, Act::Tick) => true,
+        _ => false,
+    }
+}
+
+fn is_same_event(a: &RouteEvent, b: &RouteEvent) -> bool {
+    a.moment == b.moment
+        && a.side == b.side
+        && a.address == b.address
+        && a.port == b.port
+        && is_same_act(&a.act, &b.act)
+}
+
+// Whether the event is written as these octets, and these are read as the event, to their end.
+fn is_written_and_read(alloc: Global, event: &RouteEvent, wanted: &Octets) -> Result<bool, NoMemory>
+    requires { length (act_octets event.now.act) ≤ 65535 }
+{
+    let mut octets = List::new(alloc);
+    write_magic(&mut octets)?;
+    write_route(event, &mut octets)?;
+    let written = octets == *wanted;
+    let source = MemorySource::new(octets, 7, List::new(alloc));
+    let mut routes = CaptureRoutes::new(CaptureReader::new(alloc, source, false, 1000));
+    let read = match routes.next() {
+        Ok(Some(read)) => is_same_event(&read, event),
+        _ => false,
+    };
+    let ended = matches!(routes.next(), Ok(None));
+    let again = matches!(routes.next(), Ok(None));
+    Ok(written && read && ended && again)
+}
+
+// A capture of one event: its kind, what stands behind that, and its octets, 7 and 8 or none.
+fn spelled(alloc: Global, kind: u8, behind: &[u8], carries: bool) -> Result<Octets, NoMemory> {
+    let mut octets = List::from_slice(alloc, MAGIC)?;
+    octets.push(kind)?;
+    octets.extend(behind)?;
+    if carries {
+        octets.extend(b"\x02\x07\x08")?;
+    } else {
+        octets.push(0)?;
+    }
+    Ok(octets)
+}
+
+#[test]
+fn route_events_of_every_kind_are_written_and_read(rt: HostRuntime) -> Result<(), Fail> {
+    let alloc = rt.alloc();
+    for high in 1..8u8 {
+        let v4 = route_event(alloc, high, Addr::V4(0xc000_0201))?;
+        let v6 = Addr::V6(0x2001_0db8_0000_0000_0000_0000_0000_0001);
+        let v6 = route_event(alloc, high, v6)?;
+        let carries = high == 2 || high == 5;
+        let wanted = spelled(alloc, 16 * high + 4, FROM_V4, carries)?;
+        assert!(rt; is_written_and_read(alloc, &v4, &wanted)?, "kind {high}");
+        let wanted = spelled(alloc, 16 * high + 6, FROM_V6, carries)?;
+        assert!(rt; is_written_and_read(alloc, &v6, &wanted)?, "kind {high}");
+    }
+    Ok(())
+}
+
+#[test]
+fn route_captures_end_where_their_format_says(rt: HostRuntime) -> Result<(), Fail> {
+    let alloc = rt.alloc();
+    let cases: [(&[u8], &[u8], InputFault); 6] = [
+        (b"\x04", b"\0", InputFault::BadKind { place: 8 }),
+        (b"\x84", b"\0", InputFault::BadKind { place: 8 }),
+        (b"\x15", b"\0", InputFault::BadKind { place: 8 }),
+        (b"\x14", b"\x01\x07", InputFault::TooLong { place: 8 }),
+        (b"\x74", b"\x01\x07", InputFault::TooLong { place: 8 }),
+        (b"\x76", b"\0", InputFault::Torn { place: 8 }),
+    ];
+    for (kind, own, wanted) in cases {
+        let octets = joined(alloc, &[MAGIC, kind, FROM_V4, own])?;
+        let source = MemorySource::new(octets, 1, List::new(alloc));
+        let mut routes = CaptureRoutes::new(CaptureReader::new(alloc, source, false, 1000));
+        for _ in 0..2u8 {
+            assert!(rt; matches!(routes.next(), Err(fault) if fault == wanted));
+        }
+    }
+    Ok(())
+}
+
+#[test]
+fn datagrams_are_written_and_read(rt: HostRuntime) -> Result<(), Fail> {
+    let alloc = rt.alloc();
+    let small = Datagram {
+        moment: 1000,
+        exporter: Addr::V4(0xc000_0201),
+        port: 50000,
+        octets: List::from_slice(alloc, &[7])?,
+    };
+    let wide = Datagram {
+        moment: 1000,
+        exporter: Addr::V6(0x2001_0db8_0000_0000_0000_0000_0000_0001),
+        port: 2055,
+        octets: List::from_slice(alloc, &[8, 9])?,
+    };
+    let mut octets = List::new(alloc);
+    write_magic(&mut octets)?;
+    write_flow(&small, &mut octets)?;
+    write_flow(&wide, &mut octets)?;
+    let stamp = b"\x06\0\0\0\0\0\0\x03\xe8";
+    assert!(rt; octets == joined(alloc, &[MAGIC, SMALL, stamp, &WIDE[9..]])?);
+    let (datagrams, end) = read_flows(alloc, &octets, 1000, 1000)?;
+    assert!(rt; datagrams.len() == 2 && end.is_none());
     Ok(())
 }

@@ -1,5 +1,5 @@
-use Rattle.capture_file.proofs.Spelling.{reads_back}
+use Rattle.capture_file.proofs.Spelling.{flows_read_back}
 use Rattle.capture_file.proofs.laws.what_is_written_is_read.Goals as goal
 
 pub returns : goal.returns
-returns c = reads_back
+returns c = flows_read_back
