@@ -1,7 +1,6 @@
 -- What a cache lets go, and the slices of its items.
-use Rattle.std.proofs.Common.{◌≡◌, ◌∙◌, ◌==◌, ◌<◌, ◌≤◌, ◌∷◌, ◌++◌, [], ℕ, zero, suc, ◌+◌, ◌*◌, ◌^◌, List, Bool, true, false, Option, Some, None, refl, sym, ap, ap₂, length, map, arith, append_assoc, unwrap_or, cond}
+use Rattle.std.proofs.Common.{◌≡◌, ◌∙◌, ◌==◌, ◌<◌, ◌≤◌, ◌∷◌, ◌++◌, [], ℕ, zero, suc, ◌*◌, ◌^◌, List, Bool, true, false, Option, Some, None, refl, sym, ap, ap₂, length, map, arith, append_assoc, unwrap_or, cond}
 use Rattle.std.specs.Prelude.{if◌then◌else◌, ◌||◌, ◌&&◌, IfSome, is_some, nat_le, not}
-use Rattle.std.specs.Map.{lookup}
 use Rattle.std.specs.Cmp.{IsTotalOrder}
 use Rattle.std.proofs.lemmas.Bool.{eqb-true}
 use Rattle.std.proofs.lemmas.Cmp.{eq_by_cmp_equiv}
@@ -9,8 +8,8 @@ use Rattle.acct_types.specs.declared.flow.Counts.{Counts}
 use Rattle.acct_types.specs.declared.cell.Cell.{Cell}
 use Rattle.acct_types.specs.declared.item.Purge.{Purge}
 use Rattle.acct_types.specs.Cells.{key_cmp, key_eq}
-use Rattle.acct_types.specs.Counts.{CountsFit, IsBelow, nothing, plus}
-use Rattle.plugin_cache.specs.Sums.{added, all_added, count_in, has_key, PurgesConserve, row_of, sums_of}
+use Rattle.acct_types.specs.Counts.{IsBelow, nothing, plus}
+use Rattle.plugin_cache.specs.Sums.{added, all_added, count_in, has_key, PurgesConserve, sums_of}
 use Rattle.plugin_cache.specs.Slices.{after, CacheState, completes, different_keys, entries_in, Entry, FewItemsFit, fresh, is_cut, is_empty, is_full, IsAtMost, IsLetGo, IsPurgeOf, IsWithin, let_go, OneForEach, rows_in, Slice, slices_after, slices_of, SlicesArePurged, SlicesConserve, SumUpTo, Timed}
 use Rattle.plugin_cache.proofs.SumLemmas.{Rows, adds_up, all_added_more, count_added, is_found, nothing_first, rows_of_entries}
 

@@ -1,5 +1,5 @@
 -- Sums by key, and the entries of a map.
-use Rattle.std.proofs.Common.{◌≡◌, ◌∙◌, ◌∷◌, ◌++◌, [], List, Bool, true, false, cond, Option, Some, None, unwrap_or, refl, sym, ap, ap₂, length, arith, Less, T}
+use Rattle.std.proofs.Common.{◌≡◌, ◌∙◌, ◌∷◌, ◌++◌, [], List, Bool, true, false, cond, Option, Some, None, unwrap_or, refl, sym, ap, ap₂, arith, Less, T}
 use Rattle.std.specs.Prelude.{if◌then◌else◌, ◌||◌, ◌&&◌, is_some}
 use Rattle.std.specs.List.{AllByRecursion}
 use Rattle.std.specs.List.Sorted.{IsStrictlySortedBy}

@@ -1,7 +1,6 @@
-use Rattle.std.proofs.Common.{◌≡◌, ◌∙◌, sym, ap, Bool, false}
-use Rattle.plugin_cache.specs.Slices.{CacheState, IsWithin, completes}
+use Rattle.std.proofs.Common.{◌≡◌, ◌∙◌, sym, ap, false}
+use Rattle.plugin_cache.specs.Slices.{CacheState, completes}
 use Rattle.plugin_cache.proofs.SliceLemmas.{keeps_within}
-use Rattle.plugin_cache.proofs.SumLemmas.{Rows}
 use Rattle.plugin_cache.proofs.cache.Cache.add.Goals as goal
 
 pub invariant_of-self-2 : goal.invariant_of-self-2
