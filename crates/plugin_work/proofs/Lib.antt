@@ -1,0 +1,4 @@
+mod OutputLemmas
+mod OrderLemmas
+mod TotalLemmas
+mod TakenLemmas

@@ -1,0 +1,3 @@
+pub mod Output
+pub mod Plugins
+pub mod Sinks
