@@ -1,7 +1,9 @@
 pub mod AttributeLemmas
 pub mod FormLemmas
+pub mod FrameLemmas
 pub mod OpenLemmas
 pub mod PieceLemmas
 pub mod PrefixLemmas
 pub mod SegmentLemmas
 pub mod WriteLemmas
+pub mod WrittenLemmas

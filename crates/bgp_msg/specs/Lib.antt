@@ -1,6 +1,7 @@
 pub mod Attributes
 pub mod Families
 pub mod Frames
+pub mod Laws
 pub mod Messages
 pub mod Opens
 pub mod Paths

@@ -24,8 +24,9 @@ Says agreed octets (message.Update update) = (kind_of octets ≡ 2) × (update_v
 Says agreed octets (message.Notification code subcode) = (kind_of octets ≡ 3) × (code ≡ slice_index octets 19) × (subcode ≡ slice_index octets 20)
 Says agreed octets message.Keepalive = kind_of octets ≡ 4
 
+-- Only an UPDATE without a fault may want memory.
 abbrev pub Refuses : Agreed → List ℕ → BgpRefusal → Type 0
-Refuses agreed octets refusal.NoMemory = Unit {0}
+Refuses agreed octets refusal.NoMemory = (kind_of octets ≡ 2) × (body_fault agreed octets ≡ None)
 Refuses agreed octets (refusal.Fault fault) = body_fault agreed octets ≡ Some fault
 
 -- The reader answers what a message says where nothing is wrong with it, and else what is wrong first.

@@ -3,8 +3,10 @@
 #![tactic(auto)]
 
 mod attributes;
+mod bmp_fault;
 mod families;
 mod header;
+mod laws;
 mod message;
 mod open;
 mod paths;
@@ -14,10 +16,16 @@ mod read;
 mod update;
 mod write;
 
+pub use bmp_fault::BmpFault;
 pub use header::frame;
+pub use laws::{a_message_stands_alone, what_follows_changes_nothing, what_is_written_is_read};
 pub use message::{Agreed, Announce, BgpFault, BgpMessage, BgpRefusal, Hello, Nlri, Update};
 pub use read::read_message;
 pub use write::{write_keepalive, write_notification, write_open};
 
 #[cfg(test)]
+mod open_tests;
+#[cfg(test)]
 mod tests;
+#[cfg(test)]
+mod update_tests;
