@@ -1,0 +1,7 @@
+pub mod Begun
+pub mod Laws
+pub mod Lives
+pub mod Moments
+pub mod Sessions
+pub mod Steps
+pub mod Stream

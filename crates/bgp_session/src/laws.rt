@@ -1,0 +1,32 @@
+//! Laws of the definitions.
+
+ghost use Rattle.std.specs.Prelude.{◌≡◌, ℕ, Some, None, List as Sequence};
+ghost use Rattle.bgp_session.specs.Laws.{AreInOrder, ComeTogether, Grows, IsOver, StandAlike};
+ghost use Rattle.bgp_session.specs.Lives.{closed_by, heard};
+ghost use Rattle.bgp_session.specs.Moments.{Piece, joined};
+ghost use Rattle.bgp_session.specs.Sessions.{HasHeard, SessionState};
+ghost use Rattle.bgp_session.specs.declared.progress.Local.{Local};
+ghost use Rattle.bgp_session.specs.declared.why.Why.{Why};
+
+/// The messages that are heard are an OPEN, then a KEEPALIVE, then KEEPALIVEs and UPDATEs.
+pub fn lives_are_in_order()
+    ensures { (octets : Sequence ℕ) → AreInOrder (heard octets) }
+{}
+
+/// Octets that come behind others take nothing back.
+pub fn answers_grow()
+    ensures { (local : Local) (octets more : Sequence ℕ) → closed_by octets ≡ None → Grows local octets more }
+{}
+
+/// Behind its end a life gives nothing, whatever comes.
+pub fn an_end_is_the_end()
+    ensures { (local : Local) (octets more : Sequence ℕ) (reason : Why) → closed_by octets ≡ Some reason → IsOver local octets more reason }
+{}
+
+/// Sessions that took the same octets stand alike, in whatever pieces they came.
+pub fn pieces_join()
+    ensures alike { (one other : SessionState) (pieces others : Sequence Piece) → HasHeard one pieces → HasHeard other others
+        → one.local ≡ other.local → joined pieces ≡ joined others → StandAlike one other }
+    ensures last { (one other : SessionState) (pieces others : Sequence Piece) → HasHeard one pieces → HasHeard other others
+        → joined pieces ≡ joined others → ComeTogether pieces others → one.last ≡ other.last }
+{}

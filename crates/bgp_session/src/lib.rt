@@ -1,0 +1,20 @@
+//! A BGP session with a peer that announces routes (RFC 4271, 4 and 8): octets in whatever pieces they come, to what is answered and
+//! what the peer's UPDATEs say. Nothing is announced to the peer.
+#![tactic(auto)]
+
+mod begun;
+#[cfg(test)]
+mod bird;
+mod hearing;
+pub mod laws;
+mod message;
+mod progress;
+mod session;
+#[cfg(test)]
+mod tests;
+mod turn;
+mod why;
+
+pub use session::Session;
+pub use turn::Turn;
+pub use why::Why;
