@@ -1,8 +1,7 @@
 -- What a call of a reader leaves, whatever octets follow.
-use Rattle.std.proofs.Common.{◌≡◌, ◌≤◌, ℕ, ◌∙◌, Bool, true, false, max, List, [], ◌∷◌, ◌++◌, length, take, drop, Option, Some, None, Result, Ok, Err, refl, sym, ap, subst, append_assoc, append-nil, arith}
+use Rattle.std.proofs.Common.{◌≡◌, ℕ, ◌∙◌, Bool, true, false, max, List, [], ◌∷◌, ◌++◌, length, take, drop, Option, Some, None, Result, Ok, Err, refl, sym, ap, subst, append_assoc, append-nil, arith}
 use Rattle.std.specs.Prelude.{IsTrue, if◌then◌else◌}
 use Rattle.std.specs.Option.{option_map}
-use Rattle.std.specs.Io.KnownBytes.{prepend_known}
 use Rattle.outside_io.specs.Octets.{Takes}
 use Rattle.outside_io.specs.Inputs.{prepend_told, given, EndsAs}
 use Rattle.outside_io.specs.declared.input_fault.InputFault.{InputFault}
@@ -11,14 +10,14 @@ use Rattle.capture_file.specs.declared.flows.CaptureEnd.{CaptureEnd}
 use Rattle.capture_file.specs.declared.flows.CaptureEnd.TheVariants as capture
 use Rattle.capture_file.specs.declared.reader.Step.{Step}
 use Rattle.capture_file.specs.declared.reader.Progress.{Progress}
-use Rattle.capture_file.specs.declared.reader.Progress.TheVariants.{Live, Over, Failed}
+use Rattle.capture_file.specs.declared.reader.Progress.TheVariants.{Live}
 use Rattle.capture_file.specs.Capture.{has_magic, events_from, end_from, events_of, end_of_events, read_behind}
 use Rattle.capture_file.specs.Event.{stamp_of}
 use Rattle.capture_file.specs.Reader.{progress_after, told_at, ending_at, ending_told, IsRead}
-use Rattle.capture_file.specs.Reading.{event_of, fault_of, step_at, Answers, IsCall, IsEndAt, IsEventAt, Reads, ReadsOn, says_all, steps_of, steps_behind}
-use Rattle.capture_file.specs.Standing.{Standing, at_start, past_magic, with_octets, judged_at, is_open, past_event, events_at, end_at, ReadsWhileOpen}
+use Rattle.capture_file.specs.Reading.{event_of, fault_of, step_at, Answers, IsCall, IsEndAt, IsEventAt, Reads, ReadsOn, says_all, events_read, events_behind}
+use Rattle.capture_file.specs.Standing.{Standing, at_start, with_octets, judged_at, is_open, past_event, events_at, end_at, ReadsWhileOpen}
 use Rattle.capture_file.proofs.Events.{same_events, same_end}
-use Rattle.capture_file.proofs.Standing.{IsSame, goes_on, open_is_err, same_with, stands, stops, with_octets-again, with_octets-append, with_octets-nil}
+use Rattle.capture_file.proofs.Standing.{IsSame, goes_on, open_is_err, same_with, stands, stops, with_octets-again, with_octets-append}
 use Rattle.std.proofs.Common.{length-drop}
 
 -- the reader took the event at the front
@@ -257,9 +256,9 @@ fresh_end flows most octets = by (has_magic octets)
     by true = same_end flows (length (drop 8 octets)) (length octets) most 0 (drop 8 octets) (omega arith) (omega (arith, length-drop 8 octets))
     by false = refl
 
-pub fresh_reads : (flows : Bool) (most : ℕ) → Reads (at_start flows most) [] []
-fresh_reads flows most = record {
-  first = λ later. ap (read_behind (step_at flows) 0) (sym (fresh_events flows most later));
+pub fresh_reads : {E : Type 0} (read : Bool → ℕ → List ℕ → E) (flows : Bool) (most : ℕ) → Reads read (at_start flows most) [] []
+fresh_reads read flows most = record {
+  first = λ later. ap (read_behind (read flows) 0) (sym (fresh_events flows most later));
   end = λ later. sym (fresh_end flows most later);
 }
 
@@ -274,60 +273,62 @@ pub step_is_event : (flows : Bool) (moment : ℕ) (octets : List ℕ) (step : St
 step_is_event true moment octets step is = ap (λ (s : Step). event_of (Ok s)) is ∙ ap (λ (s : Step). Ok (Some s)) (sym is)
 step_is_event false moment octets step is = ap (λ (s : Step). event_of (Ok s)) is ∙ ap (λ (s : Step). Ok (Some s)) (sym is)
 
+-- where a call says so, no whole event is left of the octets taken
+pub none_behind : {E : Type 0} (read : Bool → ℕ → List ℕ → E) (before now : Standing) (left_before left_now : Option (List ℕ)) (result : Result (Option E) InputFault)
+    → IsCall (read before.flows) before now left_before left_now result → IsTrue (says_all result) → events_behind read now [] ≡ []
+none_behind {E = E} read before now left_before left_now result call said = by result call.answer said
+  where
+    at_end : (stop : CaptureEnd) → judged_at (with_octets before call.octets) ≡ Err stop → now ≡ with_octets before call.octets → events_behind read now [] ≡ []
+    at_end stop is at = (nothing (read now.flows) before now call.octets [] stop is at (λ _. refl)).none
+
+    by : (r : Result (Option E) InputFault) → Answers (read before.flows) (with_octets before call.octets) now left_now r → IsTrue (says_all r) → events_behind read now [] ≡ []
+    by (Ok (Some event)) a s = absurd (no s)
+      where
+        no : false ≡ true → ⊥
+        no e = cc
+    by (Err fault.NoMemory) a s = absurd (no s)
+      where
+        no : false ≡ true → ⊥
+        no e = cc
+    by (Ok None) a s = at_end capture.Ended a.reason a.stays
+    by (Err fault.ReadFault) a s = let stop = open_is_err (with_octets before call.octets) a.0 in at_end stop.0 stop.1 a.1
+    by (Err fault.BadMagic) a s = at_end a.0 a.2.reason a.2.stays
+    by (Err (fault.BadKind place)) a s = at_end a.0 a.2.reason a.2.stays
+    by (Err (fault.Torn place)) a s = at_end a.0 a.2.reason a.2.stays
+    by (Err (fault.TooLong place)) a s = at_end a.0 a.2.reason a.2.stays
+    by (Err fault.TooMany) a s = at_end a.0 a.2.reason a.2.stays
+
 -- one call more
-pub call_reads : (before now : Standing) (left_before left_now : Option (List ℕ)) (result : Result (Option Step) InputFault) (octets : List ℕ) (steps : List Step)
-    → IsCall (step_at before.flows) before now left_before left_now result → Reads before octets steps → ReadsOn now left_before left_now octets steps result
-call_reads before now left_before left_now result octets steps call so_far = record {
+pub call_reads : {E : Type 0} (read : Bool → ℕ → List ℕ → E) (before now : Standing) (left_before left_now : Option (List ℕ)) (result : Result (Option E) InputFault) (octets : List ℕ) (events : List E)
+    → IsCall (read before.flows) before now left_before left_now result → Reads read before octets events → ReadsOn read now left_before left_now octets events result
+call_reads {E = E} read before now left_before left_now result octets events call so_far = record {
   more = call.octets;
   taken = call.taken;
   reads = record { first = first; end = end };
-  all = λ said. ap (steps_of now.flows now.most) (sym (append-nil (octets ++ call.octets))) ∙ first [] ∙ ap (λ (xs : List Step). (steps ++ given result) ++ xs) (none said) ∙ append-nil (steps ++ given result);
+  all = λ said. ap (events_read read now.flows now.most) (sym (append-nil (octets ++ call.octets))) ∙ first [] ∙ ap (λ (xs : List E). (events ++ given result) ++ xs) (none_behind read before now left_before left_now result call said) ∙ append-nil (events ++ given result);
 }
   where
     same : (now.flows ≡ before.flows) × (now.most ≡ before.most)
-    same = call_same (step_at before.flows) before now call.octets left_now result call.answer
+    same = call_same (read before.flows) before now call.octets left_now result call.answer
 
-    first : (later : List ℕ) → steps_of now.flows now.most ((octets ++ call.octets) ++ later) ≡ (steps ++ given result) ++ steps_behind now later
+    first : (later : List ℕ) → events_read read now.flows now.most ((octets ++ call.octets) ++ later) ≡ (events ++ given result) ++ events_behind read now later
     first later =
-        let on = follows (step_at before.flows) before now call.octets later left_now result call.answer in
-        ap (λ (xs : List ℕ). steps_of now.flows now.most xs) (append_assoc octets call.octets later)
-        ∙ ap (λ (f : Bool). steps_of f now.most (octets ++ (call.octets ++ later))) same.0
-        ∙ ap (λ (m : ℕ). steps_of before.flows m (octets ++ (call.octets ++ later))) same.1
+        let on = follows (read before.flows) before now call.octets later left_now result call.answer in
+        ap (λ (xs : List ℕ). events_read read now.flows now.most xs) (append_assoc octets call.octets later)
+        ∙ ap (λ (f : Bool). events_read read f now.most (octets ++ (call.octets ++ later))) same.0
+        ∙ ap (λ (m : ℕ). events_read read before.flows m (octets ++ (call.octets ++ later))) same.1
         ∙ so_far.first (call.octets ++ later)
-        ∙ ap (λ (xs : List Step). steps ++ xs) (on.events ∙ ap (λ (f : Bool). given result ++ read_behind (step_at f) now.moment (events_at (with_octets now later))) (sym same.0))
-        ∙ sym (append_assoc steps (given result) (steps_behind now later))
+        ∙ ap (λ (xs : List E). events ++ xs) (on.events ∙ ap (λ (f : Bool). given result ++ read_behind (read f) now.moment (events_at (with_octets now later))) (sym same.0))
+        ∙ sym (append_assoc events (given result) (events_behind read now later))
 
     end : (later : List ℕ) → end_of_events now.flows now.most ((octets ++ call.octets) ++ later) ≡ end_at (with_octets now later)
     end later =
-        let on = follows (step_at before.flows) before now call.octets later left_now result call.answer in
+        let on = follows (read before.flows) before now call.octets later left_now result call.answer in
         ap (λ (xs : List ℕ). end_of_events now.flows now.most xs) (append_assoc octets call.octets later)
         ∙ ap (λ (f : Bool). end_of_events f now.most (octets ++ (call.octets ++ later))) same.0
         ∙ ap (λ (m : ℕ). end_of_events before.flows m (octets ++ (call.octets ++ later))) same.1
         ∙ so_far.end (call.octets ++ later)
         ∙ on.end
-
-    at_end : (stop : CaptureEnd) → judged_at (with_octets before call.octets) ≡ Err stop → now ≡ with_octets before call.octets → steps_behind now [] ≡ []
-    at_end stop is at = (nothing (step_at now.flows) before now call.octets [] stop is at (λ _. refl)).none
-
-    none : IsTrue (says_all result) → steps_behind now [] ≡ []
-    none said = by result call.answer said
-      where
-        by : (r : Result (Option Step) InputFault) → Answers (step_at before.flows) (with_octets before call.octets) now left_now r → IsTrue (says_all r) → steps_behind now [] ≡ []
-        by (Ok (Some event)) a s = absurd (no s)
-          where
-            no : false ≡ true → ⊥
-            no e = cc
-        by (Err fault.NoMemory) a s = absurd (no s)
-          where
-            no : false ≡ true → ⊥
-            no e = cc
-        by (Ok None) a s = at_end capture.Ended a.reason a.stays
-        by (Err fault.ReadFault) a s = let stop = open_is_err (with_octets before call.octets) a.0 in at_end stop.0 stop.1 a.1
-        by (Err fault.BadMagic) a s = at_end a.0 a.2.reason a.2.stays
-        by (Err (fault.BadKind place)) a s = at_end a.0 a.2.reason a.2.stays
-        by (Err (fault.Torn place)) a s = at_end a.0 a.2.reason a.2.stays
-        by (Err (fault.TooLong place)) a s = at_end a.0 a.2.reason a.2.stays
-        by (Err fault.TooMany) a s = at_end a.0 a.2.reason a.2.stays
 
 -- what an input over a fresh reader tells
 pub fresh_left : {E : Type 0} (read : ℕ → List ℕ → E) (flows : Bool) (most : ℕ) (there : Standing) (progress : Progress) (left : Option (List ℕ)) → there ≡ at_start flows most → progress ≡ Live

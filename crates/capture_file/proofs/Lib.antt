@@ -6,3 +6,4 @@ pub mod Standing
 pub mod Windows
 pub mod Looking
 pub mod Calls
+pub mod TakenLemmas

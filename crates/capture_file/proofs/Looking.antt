@@ -1,6 +1,6 @@
 -- How a reader looks for the event at the front, one read after another.
-use Rattle.std.proofs.Common.{◌≡◌, ◌≤◌, ℕ, ◌∙◌, Bool, true, false, List, [], ◌++◌, length, Option, Some, None, refl, sym, ap, subst, append_assoc, append-nil, inl, inr}
-use Rattle.std.specs.Prelude.{IsTrue, ◌⊎◌}
+use Rattle.std.proofs.Common.{◌≡◌, ℕ, ◌∙◌, true, false, List, [], ◌++◌, Option, Some, None, refl, sym, ap, append_assoc, inl, inr}
+use Rattle.std.specs.Prelude.{IsTrue}
 use Rattle.std.specs.Io.KnownBytes.{prepend_known}
 use Rattle.std.proofs.lemmas.List.{append_cancel_right}
 use Rattle.outside_io.specs.Octets.{Takes}
@@ -8,11 +8,11 @@ use Rattle.capture_file.specs.Reading.{TakenIsUnique}
 use Rattle.capture_file.specs.Standing.{Standing, past_magic, with_octets, is_open, ReadsWhileOpen}
 use Rattle.capture_file.proofs.Standing.{with_octets-append, with_octets-nil}
 
-takes_nothing : (left : Option (List ℕ)) → Takes left [] left
+pub takes_nothing : (left : Option (List ℕ)) → Takes left [] left
 takes_nothing None = refl
 takes_nothing (Some octets) = refl
 
-takes_more : (before between now : Option (List ℕ)) (first next : List ℕ) → Takes before first between → Takes between next now → Takes before (first ++ next) now
+pub takes_more : (before between now : Option (List ℕ)) (first next : List ℕ) → Takes before first between → Takes between next now → Takes before (first ++ next) now
 takes_more before between now first next one two = joined now ∙ ap (prepend_known first) two ∙ one
   where
     joined : (left : Option (List ℕ)) → prepend_known (first ++ next) left ≡ prepend_known first (prepend_known next left)

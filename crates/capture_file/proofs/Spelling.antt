@@ -1,5 +1,5 @@
 -- What an event's spelling is read as.
-use Rattle.std.proofs.Common.{◌≡◌, ◌≤◌, ◌<◌, ℕ, zero, suc, ◌+◌, ◌*◌, ◌/◌, ◌%◌, ◌^◌, ◌∙◌, Bool, true, false, List, [], ◌∷◌, ◌++◌, length, take, drop, Ok, refl, sym, ap, subst, length-append, arith}
+use Rattle.std.proofs.Common.{◌≡◌, ◌≤◌, ◌<◌, ℕ, zero, suc, ◌+◌, ◌*◌, ◌^◌, ◌∙◌, Bool, true, false, List, [], ◌∷◌, ◌++◌, length, take, drop, Ok, refl, sym, ap, subst, length-append, arith}
 use Rattle.std.specs.Prelude.{max, nat_lt, flat_map, All, ◌==◌}
 use Rattle.std.proofs.lemmas.Bool.{le-ltb, ne_eqb}
 use Rattle.std.proofs.Math.Seq.{take-append_seam, drop-append_seam}
@@ -79,7 +79,7 @@ pub record IsLaidOut (high stamp : ℕ) (address : Addr) (port : ℕ) (own : Lis
   pub width : length (event_spelling high stamp address port own) ≡ header_width (16 * high + low_half_spelling address) + length own
   pub back : drop (header_width (16 * high + low_half_spelling address)) (event_spelling high stamp address port own) ≡ own
 
-is_laid_out : (high stamp : ℕ) (address : Addr) (port : ℕ) (own : List ℕ) → IsLaidOut high stamp address port own
+pub is_laid_out : (high stamp : ℕ) (address : Addr) (port : ℕ) (own : List ℕ) → IsLaidOut high stamp address port own
 is_laid_out high stamp (V4 number) port own = let low = low_of high 4 (omega arith) in record { width = rw low (omega arith); back = rw low refl }
 is_laid_out high stamp (V6 number) port own = let low = low_of high 6 (omega arith) in record { width = rw low (omega arith); back = rw low refl }
 

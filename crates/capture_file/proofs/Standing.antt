@@ -1,6 +1,6 @@
 -- How what stands at a place goes on where more octets follow.
-use Rattle.std.proofs.Common.{◌≡◌, ◌≤◌, ◌<◌, ℕ, suc, ◌+◌, ◌-◌, ◌∙◌, Bool, true, false, max, List, [], ◌∷◌, ◌++◌, length, take, drop, Result, Ok, Err, refl, sym, ap, subst, append_assoc, append-nil, length-drop, length-append, arith, inl, inr, lit≤}
-use Rattle.std.specs.Prelude.{not, nat_lt, min, ◌==◌, ◌⊎◌, IsTrue, if◌then◌else◌}
+use Rattle.std.proofs.Common.{◌≡◌, ◌≤◌, ◌<◌, ℕ, ◌+◌, ◌∙◌, Bool, true, false, List, [], ◌∷◌, ◌++◌, length, take, drop, Result, Ok, Err, refl, sym, ap, subst, append_assoc, append-nil, length-drop, length-append, arith, inl, inr}
+use Rattle.std.specs.Prelude.{not, nat_lt, ◌==◌, ◌⊎◌, IsTrue, if◌then◌else◌}
 use Rattle.std.specs.Str.{bytes_eq}
 use Rattle.std.proofs.lemmas.Bool.{eqb-true, ne_eqb, le-ltb, ltb-true, ltb-false}
 use Rattle.std.proofs.lemmas.List.{take-append-le, drop-append-le, length-take}
@@ -9,12 +9,12 @@ use Rattle.std.proofs.Math.ListN.{get_or-append}
 use Rattle.byteorder.specs.Numbers.{big_from-append}
 use Rattle.acct_types.specs.Numbers.{number_at}
 use Rattle.capture_file.specs.declared.flows.CaptureEnd.{CaptureEnd}
-use Rattle.capture_file.specs.declared.flows.CaptureEnd.TheVariants.{Ended, BadMagic, BadKind, Torn, TooLong, TooMany}
+use Rattle.capture_file.specs.declared.flows.CaptureEnd.TheVariants.{BadMagic}
 use Rattle.capture_file.specs.Capture.{magic, has_magic, events_from, end_from}
 use Rattle.capture_file.specs.Event.{judged, is_kind, kind_of, header_width, event_width, length_of, most_octets, octets_of, LONGEST}
 use Rattle.capture_file.specs.Standing.{Standing, past_magic, with_octets, judged_at, may_turn, is_open, past_event, events_at, end_at}
 use Rattle.capture_file.proofs.Bounds.{own_is_short}
-use Rattle.capture_file.proofs.Events.{ruled, whole_event, takes_some, events_next, end_next, end_here, events_none, header_in_event}
+use Rattle.capture_file.proofs.Events.{ruled, whole_event, events_next, end_next, end_here, events_none, header_in_event}
 
 -- a number that stands in the octets is read there, whatever follows
 number_at-append : (octets more : List ℕ) (place width : ℕ) → place + width ≤ length octets → number_at (octets ++ more) place width ≡ number_at octets place width

@@ -1,7 +1,6 @@
 -- On the octets of a buffer between two places.
-use Rattle.std.proofs.Common.{◌≡◌, ◌≤◌, ℕ, ◌+◌, ◌-◌, ◌∙◌, List, ◌++◌, length, take, drop, refl, sym, ap, arith, length-drop, take-append-drop}
-use Rattle.std.specs.Prelude.{min}
-use Rattle.std.proofs.lemmas.List.{append-nil, drop_all, take_all, take_at, take-take, drop-take, drop-append-le, length-take-le, length-take}
+use Rattle.std.proofs.Common.{◌≡◌, ◌≤◌, ℕ, ◌+◌, ◌-◌, ◌∙◌, List, ◌++◌, length, take, drop, sym, ap, arith, length-drop, take-append-drop}
+use Rattle.std.proofs.lemmas.List.{append-nil, drop_all, take_all, take_at, take-take, drop-take, drop-append-le, length-take-le}
 
 -- the part between two places is at the front of the buffer once it was copied there
 pub moved : (items rest : List ℕ) (start end : ℕ) → start ≤ end → end ≤ length items → take (end - start) (take (end - start) (drop start items) ++ rest) ≡ drop start (take end items)

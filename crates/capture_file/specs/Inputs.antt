@@ -1,5 +1,5 @@
 -- What the inputs over a capture tell, where their source tells its octets.
-use Rattle.std.specs.Prelude.{ℕ, List, Option}
+use Rattle.std.specs.Prelude.{ℕ, List, Option, Result}
 use Rattle.acct_types.specs.declared.datagram.Datagram.{Datagram}
 use Rattle.outside_io.specs.declared.input_fault.InputFault.{InputFault}
 use Rattle.outside_io.specs.declared.route_event.RouteEvent.{RouteEvent}
@@ -7,7 +7,7 @@ use Rattle.capture_file.specs.declared.inputs.CaptureFlows.{CaptureFlows}
 use Rattle.capture_file.specs.declared.inputs.CaptureRoutes.{CaptureRoutes}
 use Rattle.capture_file.specs.declared.reader.CaptureReader.{CaptureReader}
 use Rattle.capture_file.specs.Event.{datagram_at, route_event_at}
-use Rattle.capture_file.specs.Reader.{source_of, told_of, ending_of}
+use Rattle.capture_file.specs.Reader.{source_of, told_of, ending_of, IsInputCall}
 
 abbrev pub flows_reader : {S : Type 0} → CaptureFlows S → CaptureReader S
 flows_reader flows = flows.reader
@@ -20,6 +20,10 @@ flows_left left flows = told_of datagram_at (left (source_of flows.reader)) flow
 abbrev pub flows_ending : {S : Type 0} → (S → Option (List ℕ)) → CaptureFlows S → Option InputFault
 flows_ending left flows = ending_of (left (source_of flows.reader)) flows.reader
 
+-- one call: the datagrams that it hands out, and the octets that it takes of its source
+abbrev pub flows_call : {S : Type 0} → (S → Option (List ℕ)) → CaptureFlows S → CaptureFlows S → Result (Option Datagram) InputFault → Type 0
+flows_call left before after result = IsInputCall datagram_at left before.reader after.reader result
+
 abbrev pub routes_reader : {S : Type 0} → CaptureRoutes S → CaptureReader S
 routes_reader routes = routes.reader
 
@@ -28,3 +32,6 @@ routes_left left routes = told_of route_event_at (left (source_of routes.reader)
 
 abbrev pub routes_ending : {S : Type 0} → (S → Option (List ℕ)) → CaptureRoutes S → Option InputFault
 routes_ending left routes = ending_of (left (source_of routes.reader)) routes.reader
+
+abbrev pub routes_call : {S : Type 0} → (S → Option (List ℕ)) → CaptureRoutes S → CaptureRoutes S → Result (Option RouteEvent) InputFault → Type 0
+routes_call left before after result = IsInputCall route_event_at left before.reader after.reader result

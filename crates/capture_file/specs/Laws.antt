@@ -1,10 +1,10 @@
 -- What holds of the events of every capture.
-use Rattle.std.specs.Prelude.{◌≡◌, ◌≤◌, ◌<◌, ◌^◌, ℕ, Bool, List, [], ◌∷◌, ◌++◌, ◌+◌, ◌-◌, flat_map, length, take, drop, Result, Ok}
+use Rattle.std.specs.Prelude.{◌≡◌, ◌≤◌, ◌<◌, ◌^◌, ℕ, Bool, List, [], ◌∷◌, ◌++◌, ◌+◌, ◌-◌, flat_map, length, take, drop, Ok}
 use Rattle.acct_types.specs.declared.addr.Addr.{Addr}
 use Rattle.acct_types.specs.declared.addr.Addr.TheVariants.{V4, V6}
 use Rattle.acct_types.specs.declared.datagram.Datagram.{Datagram}
 use Rattle.outside_io.specs.declared.route_event.Side.{Side}
-use Rattle.outside_io.specs.declared.route_event.Side.TheVariants.{Bgp, Bmp}
+use Rattle.outside_io.specs.declared.route_event.Side.TheVariants.{Bgp}
 use Rattle.outside_io.specs.declared.route_event.Act.{Act}
 use Rattle.outside_io.specs.declared.route_event.Act.TheVariants.{Up, Bytes, Down, Tick}
 use Rattle.outside_io.specs.declared.route_event.RouteEvent.{RouteEvent}

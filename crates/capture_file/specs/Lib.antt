@@ -8,3 +8,4 @@ pub mod Looked
 pub mod Reading
 pub mod Reader
 pub mod Inputs
+pub mod Taken

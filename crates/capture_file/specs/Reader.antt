@@ -14,7 +14,7 @@ use Rattle.capture_file.specs.declared.reader.Progress.TheVariants.{Live, Over, 
 use Rattle.capture_file.specs.declared.reader.CaptureReader.{CaptureReader}
 use Rattle.capture_file.specs.Capture.{read_behind}
 use Rattle.capture_file.specs.Event.{LONGEST, octets_of, stamp_of}
-use Rattle.capture_file.specs.Reading.{fault_of}
+use Rattle.capture_file.specs.Reading.{fault_of, IsCall}
 use Rattle.capture_file.specs.Standing.{Standing, at_start, with_octets, events_at, end_at}
 
 -- where it stands
@@ -68,17 +68,26 @@ end_answer (capture.Torn place) = Err (fault.Torn place)
 end_answer (capture.TooLong place) = Err (fault.TooLong place)
 end_answer capture.TooMany = Err fault.TooMany
 
--- what an input over a reader answers that isn't live any more: the capture's end again, or want of memory once a read or memory failed
-abbrev pub AnswersAgain : {E : Type 0} → Progress → Result (Option E) InputFault → Type 0
-AnswersAgain Live result = Unit {0}
-AnswersAgain (Over end) result = result ≡ end_answer end
-AnswersAgain Failed result = result ≡ Err fault.NoMemory
+-- One call of an input over a live reader, with what the source told before and after it: the reader was called, and goes on as the answer says.
+pub record IsLiveCall {E S : Type 0} (read : ℕ → List ℕ → E) (left : S → Option (List ℕ)) (before after : CaptureReader S) (result : Result (Option E) InputFault) : Type 0 where
+  pub call : IsCall read (standing_of before) (standing_of after) (left (source_of before)) (left (source_of after)) result
+  pub progress : progress_of after ≡ progress_after result
 
--- how the reader goes on then
-abbrev pub goes_to : {E : Type 0} → Progress → Result (Option E) InputFault → Progress
-goes_to Live result = progress_after result
-goes_to (Over end) result = Over end
-goes_to Failed result = Failed
+-- one of an input over a reader that isn't live: nothing changed, and that was answered
+pub record IsIdleCall {E S : Type 0} (before after : CaptureReader S) (result said : Result (Option E) InputFault) : Type 0 where
+  pub unchanged : after ≡ before
+  pub answer : result ≡ said
+
+-- One call of an input over a reader, by how it goes on: once the capture ended its end is answered again, and want of memory once a
+-- read or memory failed.
+abbrev pub IsCallAt : {E S : Type 0} → Progress → (ℕ → List ℕ → E) → (S → Option (List ℕ)) → CaptureReader S → CaptureReader S → Result (Option E) InputFault → Type 0
+IsCallAt Live read left before after result = IsLiveCall read left before after result
+IsCallAt (Over end) read left before after result = IsIdleCall before after result (end_answer end)
+IsCallAt Failed read left before after result = IsIdleCall before after result (Err fault.NoMemory)
+
+-- one call of an input over a reader
+abbrev pub IsInputCall : {E S : Type 0} → (ℕ → List ℕ → E) → (S → Option (List ℕ)) → CaptureReader S → CaptureReader S → Result (Option E) InputFault → Type 0
+IsInputCall read left before after result = IsCallAt (progress_of before) read left before after result
 
 abbrev pub io_answer : {E : Type 0} → IoFault → Result (Option E) InputFault
 io_answer io.Failed = Err fault.ReadFault

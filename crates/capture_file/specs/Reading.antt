@@ -11,7 +11,7 @@ use Rattle.capture_file.specs.declared.reader.Step.{Step}
 use Rattle.capture_file.specs.declared.reader.Step.TheVariants.{Flow, Route, Ended}
 use Rattle.capture_file.specs.Capture.{events_of, end_of_events, read_behind}
 use Rattle.capture_file.specs.Event.{datagram_at, route_event_at}
-use Rattle.capture_file.specs.Standing.{Standing, at_start, with_octets, judged_at, is_open, ReadsWhileOpen, past_event, events_at, end_at}
+use Rattle.capture_file.specs.Standing.{Standing, with_octets, judged_at, is_open, ReadsWhileOpen, past_event, events_at, end_at}
 
 -- the fault that a capture's end is, None where it simply ends
 abbrev pub fault_of : CaptureEnd → Option InputFault
@@ -62,18 +62,18 @@ pub record IsCall {E : Type 0} (read : ℕ → List ℕ → E) (before now : Sta
   pub while_open : ReadsWhileOpen before octets
   pub answer : Answers read (with_octets before octets) now left_now result
 
--- the steps of a capture's octets
-abbrev pub steps_of : Bool → ℕ → List ℕ → List Step
-steps_of flows most octets = read_behind (step_at flows) 0 (events_of flows most octets)
+-- the events of a capture's octets, each as it is read
+abbrev pub events_read : {E : Type 0} → (Bool → ℕ → List ℕ → E) → Bool → ℕ → List ℕ → List E
+events_read read flows most octets = read_behind (read flows) 0 (events_of flows most octets)
 
--- the steps that a reader has yet to hand out, where these octets follow
-abbrev pub steps_behind : Standing → List ℕ → List Step
-steps_behind now later = read_behind (step_at now.flows) now.moment (events_at (with_octets now later))
+-- the events that a reader has yet to hand out, where these octets follow
+abbrev pub events_behind : {E : Type 0} → (Bool → ℕ → List ℕ → E) → Standing → List ℕ → List E
+events_behind read now later = read_behind (read now.flows) now.moment (events_at (with_octets now later))
 
--- Of all calls so far: these octets were taken, and these steps handed out. However the octets go on, the steps are the first ones of
+-- Of all calls so far: these octets were taken, and these events handed out. However the octets go on, the events are the first ones of
 -- theirs, and the others are those that the reader has yet to hand out.
-pub record Reads (now : Standing) (octets : List ℕ) (steps : List Step) : Type 0 where
-  pub first : (later : List ℕ) → steps_of now.flows now.most (octets ++ later) ≡ steps ++ steps_behind now later
+pub record Reads {E : Type 0} (read : Bool → ℕ → List ℕ → E) (now : Standing) (octets : List ℕ) (events : List E) : Type 0 where
+  pub first : (later : List ℕ) → events_read read now.flows now.most (octets ++ later) ≡ events ++ events_behind read now later
   pub end : (later : List ℕ) → end_of_events now.flows now.most (octets ++ later) ≡ end_at (with_octets now later)
 
 -- whether an answer says that no whole event is left of the octets taken
@@ -82,12 +82,12 @@ says_all (Ok (Some event)) = false
 says_all (Err fault.NoMemory) = false
 says_all answer = true
 
--- One call more: it took some octets and answered, and where it says so the steps are all of those of the octets taken.
-pub record ReadsOn (now : Standing) (left_before left_now : Option (List ℕ)) (octets : List ℕ) (steps : List Step) (result : Result (Option Step) InputFault) : Type 0 where
+-- One call more: it took some octets and answered, and where it says so the events are all of those of the octets taken.
+pub record ReadsOn {E : Type 0} (read : Bool → ℕ → List ℕ → E) (now : Standing) (left_before left_now : Option (List ℕ)) (octets : List ℕ) (events : List E) (result : Result (Option E) InputFault) : Type 0 where
   pub more : List ℕ
   pub taken : Takes left_before more left_now
-  pub reads : Reads now (octets ++ more) (steps ++ given result)
-  pub all : IsTrue (says_all result) → steps_of now.flows now.most (octets ++ more) ≡ steps ++ given result
+  pub reads : Reads read now (octets ++ more) (events ++ given result)
+  pub all : IsTrue (says_all result) → events_read read now.flows now.most (octets ++ more) ≡ events ++ given result
 
 -- where the source tells its octets, a call took these and no others
 abbrev pub TakenIsUnique : Type 0

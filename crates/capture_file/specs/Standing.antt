@@ -1,5 +1,5 @@
 -- Where a reader of a capture stands, and what the capture is from there on.
-use Rattle.std.specs.Prelude.{◌≡◌, ◌⊎◌, IsTrue, ℕ, ◌+◌, ◌==◌, Bool, true, false, List, [], ◌++◌, length, take, drop, max, nat_lt, if◌then◌else◌, Option, Some, None, Result, Ok, Err}
+use Rattle.std.specs.Prelude.{◌≡◌, ◌⊎◌, IsTrue, ℕ, ◌+◌, Bool, true, false, List, [], ◌++◌, length, take, drop, max, nat_lt, if◌then◌else◌, Result, Ok, Err}
 use Rattle.capture_file.specs.declared.flows.CaptureEnd.{CaptureEnd}
 use Rattle.capture_file.specs.declared.flows.CaptureEnd.TheVariants.{Ended, BadMagic, BadKind, Torn, TooLong, TooMany}
 use Rattle.capture_file.specs.Capture.{has_magic, events_from, end_from}

@@ -1,10 +1,10 @@
 //! Captures as the inputs of a run.
 
-ghost use Rattle.std.specs.Prelude.{◌≡◌, List, ℕ, Some, None, true, false};
+ghost use Rattle.std.specs.Prelude.{◌≡◌, List, ℕ, Some, None, true, false, IsOk};
 ghost use Rattle.std.specs.Option.{option_map};
 ghost use Rattle.capture_file.specs.Capture.{datagrams_of, end_of, route_end_of, route_events_of};
 ghost use Rattle.capture_file.specs.Event.{datagram_at, route_event_at};
-ghost use Rattle.capture_file.specs.Inputs.{flows_ending, flows_left, flows_reader, routes_ending, routes_left, routes_reader};
+ghost use Rattle.capture_file.specs.Inputs.{flows_call, flows_ending, flows_left, flows_reader, routes_call, routes_ending, routes_left, routes_reader};
 ghost use Rattle.capture_file.specs.Reader.{source_of, standing_of, IsFresh};
 ghost use Rattle.capture_file.specs.Reading.{fault_of};
 
@@ -50,6 +50,8 @@ impl<S: Source> Datagrams for CaptureFlows<S> {
     ghost faults = { λ flows. S.faults (source_of (flows_reader flows)) };
 
     ghost captured = { λ _. true };
+
+    ghost call = { flows_call S.left };
 
     fn next(&mut self) -> Result<Option<Datagram>, InputFault> {
         self.reader.hand_out::<Datagram>()
@@ -99,11 +101,16 @@ impl<S: Source + Drop> Sessions for CaptureRoutes<S> {
 
     ghost reply_faults = { λ _. 0 };
 
+    ghost call = { routes_call S.left };
+
     fn next(&mut self) -> Result<Option<RouteEvent>, InputFault> {
         self.reader.hand_out::<RouteEvent>()
     }
 
-    fn reply(&mut self, _: Side, _: &Addr, _: &Octets) -> Result<(), IoFault> {
+    fn reply(&mut self, _: Side, _: &Addr, _: &Octets) -> Result<(), IoFault>
+        ensures ok { IsOk result }
+        ensures kept { self.new ≡ self.old }
+    {
         Ok(())
     }
 

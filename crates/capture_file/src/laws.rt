@@ -1,12 +1,16 @@
 //! Laws of the definitions, which hold of every file.
 
-ghost use Rattle.std.specs.Prelude.{◌≤◌, ◌+◌, All, ℕ, List, length, true, false};
+ghost use Rattle.std.specs.Prelude.{◌≤◌, ◌+◌, All, ℕ, List, length, map, sum, true, false};
 ghost use Rattle.acct_types.specs.declared.datagram.Datagram.{Datagram};
 ghost use Rattle.outside_io.specs.declared.route_event.RouteEvent.{RouteEvent};
 ghost use Rattle.capture_file.specs.Capture.{datagrams_of, route_events_of};
 ghost use Rattle.capture_file.specs.Event.{datagram_at, route_event_at, route_spelling_of, spelling_of};
 ghost use Rattle.capture_file.specs.Reading.{TakenIsUnique};
 ghost use Rattle.capture_file.specs.Laws.{FitIn, FitsEvent, FitsRouteEvent, IsReadAgain, NeverFall, ReadsBack, ReadsRoutesBack, route_spellings_of, spellings_of};
+ghost use Rattle.capture_file.specs.Taken.{FlowsHandOutTaken, RoutesHandOutTaken};
+
+use crate::{CaptureFlows, CaptureRoutes};
+use outside_io::{Datagrams, Sessions, Source};
 
 /// The moments of a capture's datagrams never fall, whatever their stamps, nor those of its route events.
 pub fn moments_never_fall()
@@ -17,6 +21,11 @@ pub fn moments_never_fall()
 /// A capture's datagrams have at most 65,535 octets each, and with the headers of their events no more than the limit.
 pub fn datagrams_fit_the_limit()
     ensures { (most : ℕ) (octets : List ℕ) → FitIn most (datagrams_of most octets) }
+{}
+
+/// The events that a capture's datagrams are written as have no more octets in all than the limit.
+pub fn written_datagrams_fit_the_limit()
+    ensures { (most : ℕ) (octets : List ℕ) → sum (map (λ (d : Datagram). length (spelling_of d)) (datagrams_of most octets)) ≤ most }
 {}
 
 /// The event that a datagram is written as is read as this datagram, whatever follows it.
@@ -46,4 +55,15 @@ pub fn what_is_written_of_routes_is_read()
 /// Where a source tells its octets, what a call of a reader took of them is one list.
 pub fn what_a_call_takes_is_unique()
     ensures { TakenIsUnique }
+{}
+
+/// Any calls of an input over a fresh reader of flows hand out the first datagrams of the octets that they took of its source, and all of them
+/// where the last answer is the end or a fault other than want of memory.
+pub fn flows_hand_out_what_they_took<S: Source>()
+    ensures { FlowsHandOutTaken S.left ⟦<CaptureFlows<S> as Datagrams>⟧.call }
+{}
+
+/// The same of an input over a fresh reader of routes.
+pub fn routes_hand_out_what_they_took<S: Source + Drop>()
+    ensures { RoutesHandOutTaken S.left ⟦<CaptureRoutes<S> as Sessions>⟧.call }
 {}

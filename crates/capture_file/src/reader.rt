@@ -4,7 +4,7 @@ ghost use Rattle.std.specs.Prelude.{◌≡◌, ◌≤◌, ◌-◌, ◌^◌, ◌+
 ghost use Rattle.outside_io.specs.Inputs.{append_told, given, prepend_told, EndsAs, HasInputCause, IfGiven};
 ghost use Rattle.capture_file.specs.Standing.{at_start, is_open, past_magic};
 ghost use Rattle.capture_file.specs.Reading.{event_of, fault_of, step_at, IsCall, Reads, ReadsOn};
-ghost use Rattle.capture_file.specs.Reader.{end_answer, ending_of, goes_to, io_answer, is_live, progress_after, progress_of, source_of, standing_of, told_of, is_live_after, AnswersAgain, IsFresh, IsRead};
+ghost use Rattle.capture_file.specs.Reader.{end_answer, ending_of, io_answer, is_live, progress_after, progress_of, source_of, standing_of, told_of, is_live_after, IsFresh, IsInputCall, IsRead};
 ghost use Rattle.capture_file.specs.declared.reader.Step.{Step};
 
 use crate::flows::CaptureEnd;
@@ -124,7 +124,7 @@ impl<S: Source> CaptureReader<S> {
         ensures fresh { IsFresh flows result }
         ensures most { (standing_of result).most ≡ most }
         ensures source { source_of result ≡ source }
-        ensures reads { Reads (standing_of result) [] [] }
+        ensures reads { Reads step_at (standing_of result) [] [] }
     {
         CaptureReader {
             reading: Reading::new(alloc, flows, most),
@@ -161,8 +161,8 @@ impl<S: Source> CaptureReader<S> {
         ensures idle { is_open (past_magic (standing_of self.old)) ≡ false → source_of self.new ≡ source_of self.old }
         ensures cause { HasInputCause (S.faults (source_of self.old)) (S.faults (source_of self.new)) result }
         ensures ahead { length (standing_of self.new).ahead ≤ 65566 }
-        ensures reads { (octets : List ℕ) (steps : List Step) → Reads (standing_of self.old) octets steps
-            → ReadsOn (standing_of self.new) (S.left (source_of self.old)) (S.left (source_of self.new)) octets steps (event_of result) }
+        ensures reads { (octets : List ℕ) (steps : List Step) → Reads step_at (standing_of self.old) octets steps
+            → ReadsOn step_at (standing_of self.new) (S.left (source_of self.old)) (S.left (source_of self.new)) octets steps (event_of result) }
     {
         match self.next_event::<Step>() {
             Ok(Some(step)) => Ok(step),
@@ -190,8 +190,7 @@ impl<S: Source> CaptureReader<S> {
         ensures ends { EndsAs (told_of (E.at (standing_of self.old).flows) (S.left (source_of self.old)) self.old) (ending_of (S.left (source_of self.old)) self.old) result }
         ensures ending { ending_of (S.left (source_of self.new)) self.new ≡ ending_of (S.left (source_of self.old)) self.old }
         ensures flows { (standing_of self.new).flows ≡ (standing_of self.old).flows }
-        ensures again { AnswersAgain (progress_of self.old) result }
-        ensures progress { progress_of self.new ≡ goes_to (progress_of self.old) result }
+        ensures call { IsInputCall (E.at (standing_of self.old).flows) S.left self.old self.new result }
         ensures event { IsRead (E.at (standing_of self.old).flows) (standing_of self.old).moment (standing_of self.new).moment result }
         ensures cause { HasInputCause (S.faults (source_of self.old)) (S.faults (source_of self.new)) result }
     {

@@ -10,6 +10,7 @@ pub mod FilePlace
 pub mod Inputs
 pub mod RouteEvents
 pub mod Spans
+pub mod Calls
 pub mod CanCome
 pub mod EventQueue
 pub mod MemoryInputs

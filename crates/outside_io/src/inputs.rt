@@ -1,4 +1,4 @@
-ghost use Rattle.std.specs.Prelude.{◌≡◌, ◌≤◌, ◌∷◌, [], ℕ, List, length, Bool, IsTrue, Option, IfErr, MatchResult};
+ghost use Rattle.std.specs.Prelude.{◌≡◌, ◌≤◌, ◌∷◌, [], ℕ, List, length, Bool, IsTrue, Option, Result, IfErr, MatchResult};
 ghost use Rattle.acct_types.specs.declared.datagram.Datagram.{Datagram};
 ghost use Rattle.outside_io.specs.Causes.{HasCause};
 ghost use Rattle.outside_io.specs.Inputs.{prepend_told, append_told, given, MatchGiven, IfGiven, EndsAs, HasInputCause, is_of_capture};
@@ -30,6 +30,9 @@ pub trait Datagrams {
     /// Whether it reads a capture.
     ghost captured: { Self → Bool };
 
+    /// What else an input tells of a call of `next`: of how it stood before the call, how it stands after it, and the answer. Nothing, unless it says so.
+    ghost call: { Self → Self → Result (Option Datagram) InputFault → Type 0 } = { λ _ _ _. Unit {0} };
+
     /// The next datagram, of at most 65,535 octets, or None where none is left. After an error none is lost.
     fn next(&mut self) -> Result<Option<Datagram>, InputFault>
         ensures left { prepend_told (given result) (left self.new) ≡ left self.old }
@@ -40,7 +43,8 @@ pub trait Datagrams {
         ensures fits { IfGiven result (λ d. length d.octets ≤ 65535) }
         ensures cause { HasInputCause (faults self.old) (faults self.new) result }
         ensures of_capture { IfErr result (λ fault. IsTrue (is_of_capture fault) → IsTrue (captured self.old)) }
-        ensures captured { captured self.new ≡ captured self.old };
+        ensures captured { captured self.new ≡ captured self.old }
+        ensures call { call self.old self.new result };
 }
 
 /// Where what happens to the sessions with routers comes from, one event a call, and replies to the routers go to.
@@ -69,6 +73,9 @@ pub trait Sessions: Drop {
     /// How often a reply failed. It never falls.
     ghost reply_faults: { Self → ℕ };
 
+    /// What else an input tells of a call of `next`: of how it stood before the call, how it stands after it, and the answer. Nothing, unless it says so.
+    ghost call: { Self → Self → Result (Option RouteEvent) InputFault → Type 0 } = { λ _ _ _. Unit {0} };
+
     /// The next event, of at most 65,535 octets, or None where none is left. After an error none is lost.
     fn next(&mut self) -> Result<Option<RouteEvent>, InputFault>
         ensures left { prepend_told (given result) (left self.new) ≡ left self.old }
@@ -81,7 +88,8 @@ pub trait Sessions: Drop {
         ensures of_capture { IfErr result (λ fault. IsTrue (is_of_capture fault) → IsTrue (captured self.old)) }
         ensures captured { captured self.new ≡ captured self.old }
         ensures sent { sent self.new ≡ sent self.old }
-        ensures reply_faults { reply_faults self.new ≡ reply_faults self.old };
+        ensures reply_faults { reply_faults self.new ≡ reply_faults self.old }
+        ensures call { call self.old self.new result };
 
     /// Sends octets to the router of that address. After an error none of them counts as sent.
     fn reply(&mut self, side: Side, to: &Addr, octets: &Octets) -> Result<(), IoFault>

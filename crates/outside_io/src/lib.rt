@@ -35,7 +35,8 @@ pub use memory_place::MemoryPlace;
 pub use no_routes::NoRoutes;
 pub use route_event::{Act, RouteEvent, Sent, Side};
 pub use spans::{
-    adjoining_spans_join, nothing_is_handed_out_in_no_time, what_is_handed_out_is_unique,
+    adjoining_spans_join, calls_of_datagrams_join, calls_of_sessions_join,
+    nothing_is_handed_out_in_no_time, what_is_handed_out_is_unique,
 };
 pub use traits::{Place, Sink, Source};
 pub use whole::{ReadOctets, read_all, read_name, write_all};

@@ -1,9 +1,8 @@
-use Rattle.std.proofs.Common.{◌≡◌, ◌≤◌, ◌+◌, ℕ, List, length, take, Ok, subst, sym, ap, arith}
+use Rattle.std.proofs.Common.{◌≡◌, Ok, subst, sym, arith}
 use Rattle.std.proofs.lemmas.List.{length-take-le}
-use Rattle.capture_file.specs.Event.{header_width, kind_of}
 use Rattle.capture_file.specs.Holds.{standing_in}
 use Rattle.capture_file.specs.Standing.{Standing, judged_at}
-use Rattle.capture_file.proofs.Standing.{StandsWhole, stands}
+use Rattle.capture_file.proofs.Standing.{stands}
 use Rattle.capture_file.proofs.reading.Reading.take_event.Goals as goal
 
 pub slice_bounds-octets-end : goal.slice_bounds-octets-end
