@@ -1,0 +1,9 @@
+pub mod BehindLemmas
+pub mod CallLemmas
+pub mod EndsLemmas
+pub mod FlowLemmas
+pub mod GivenLemmas
+pub mod RunLemmas
+pub mod SeenLemmas
+pub mod StartLemmas
+pub mod WrittenLemmas

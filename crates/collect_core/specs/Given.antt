@@ -1,0 +1,19 @@
+-- Plugins at work, and the entries that they were given.
+use Rattle.std.specs.Prelude.{◌≡◌, ⊤, List, [], ◌∷◌, map}
+use Rattle.acct_types.specs.declared.item.Item.{Item}
+use Rattle.config_keys.specs.declared.plugin.PluginConfig.{PluginConfig}
+use Rattle.plugin_work.specs.Plugins.{HasTaken, PluginState}
+use Rattle.plugin_work.specs.Sinks.{SinkState}
+use Rattle.collect_core.specs.Due.{Entry, entry_of}
+
+-- a plugin took the items of these entries, and its sink was `start` before them
+pub record IsGiven (plugin : PluginConfig) (start : SinkState) (entries : List Entry) (state : PluginState) : Type 0 where
+  pub items : List Item
+  pub are : map entry_of items ≡ entries
+  pub taken : HasTaken plugin start items state
+
+-- the same of all plugins, each with its own entries
+abbrev pub AreGiven : List PluginConfig → List SinkState → (PluginConfig → List Entry) → List PluginState → Type 0
+AreGiven [] [] entries [] = ⊤
+AreGiven (plugin ∷ plugins) (start ∷ starts) entries (state ∷ states) = IsGiven plugin start (entries plugin) state × AreGiven plugins starts entries states
+AreGiven plugins starts entries states = ⊥

@@ -1,0 +1,10 @@
+pub mod Audit
+pub mod Due
+pub mod Ends
+pub mod Flows
+pub mod Given
+pub mod Job
+pub mod Most
+pub mod Run
+pub mod Running
+pub mod Seen

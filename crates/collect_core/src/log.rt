@@ -1,0 +1,51 @@
+//! The audit of a run, as it is written.
+
+ghost use Rattle.std.specs.Prelude.{◌≡◌, ◌++◌, [], List as Sequence, ℕ};
+ghost use Rattle.plugin_work.specs.Sinks.{IsWritten, SinkState, state_of};
+
+use acct_types::Octets;
+use outside_io::{IoFault, OutEnd, Sink, write_all};
+use std::alloc::Global;
+
+/// The lines that aren't written yet, and how the output stands.
+#[derive(Drop)]
+pub struct Log {
+    pub text: Octets,
+    pub end: OutEnd,
+}
+
+// Writes a text behind those that are written.
+fn write_text<A: Sink>(audit: &mut A, text: &[u8]) -> OutEnd
+    ensures { (start : SinkState) (before : Sequence ℕ) → IsWritten before OutEnd.Whole start (state_of A.held A.faults audit.old)
+        → IsWritten (before ++ text.now) result start (state_of A.held A.faults audit.new) }
+{
+    match write_all(audit, text) {
+        Ok(()) => OutEnd::Whole,
+        Err(IoFault::Failed) => OutEnd::Failed,
+        Err(IoFault::NoMemory) => OutEnd::Memory,
+    }
+}
+
+impl Log {
+    pub fn new(alloc: Global) -> Log
+        ensures text { result.text ≡ [] }
+        ensures end { result.end ≡ OutEnd.Whole }
+    {
+        Log {
+            text: Octets::new(alloc),
+            end: OutEnd::Whole,
+        }
+    }
+
+    /// Writes the lines. Once a write failed, or memory ran out, no line is written any more.
+    pub fn write<A: Sink>(&mut self, audit: &mut A)
+        ensures written { (start : SinkState) (text : Sequence ℕ) → IsWritten text self.old.end start (state_of A.held A.faults audit.old)
+            → IsWritten (text ++ self.old.text) self.new.end start (state_of A.held A.faults audit.new) }
+        ensures text { self.new.text ≡ [] }
+    {
+        if let OutEnd::Whole = self.end {
+            self.end = write_text(audit, self.text.as_slice());
+        }
+        self.text.truncate(0);
+    }
+}
