@@ -1,22 +1,26 @@
--- The job that a configuration gives.
-use Rattle.std.proofs.Common.{◌≡◌, ◌∙◌, ◌≢◌, ◌∷◌, ◌++◌, [], List, ℕ, Bool, true, false, Option, Some, None, refl, sym, ap, subst}
-use Rattle.std.specs.Prelude.{◌||◌, ◌&&◌, MatchOption, is_some, not, Result, Ok, Err, if◌then◌else◌, map}
+-- The names of a job, which are apart.
+use Rattle.std.proofs.Common.{◌≡◌, ◌∙◌, ◌≢◌, ◌∷◌, [], List, ℕ, Bool, true, false, Option, Some, None, refl, sym, ap, subst}
+use Rattle.std.specs.Prelude.{◌||◌, ◌&&◌, All, is_some, not, Result, Ok, Err, if◌then◌else◌, map, unwrap_or}
 use Rattle.std.specs.List.{list_any}
 use Rattle.std.specs.Str.{bytes_eq}
+use Rattle.std.proofs.lemmas.List.Elements.{All-cons, All-nil, All-weaker}
 use Rattle.std.proofs.lemmas.Slice.Eq.{bytes_eq-Decides}
+use Rattle.collect_core.specs.Job.{collects}
+use Rattle.collect_core.specs.declared.job.Job.{Job}
 use Rattle.config_keys.specs.Judging.{settings_of}
 use Rattle.config_keys.specs.Lines.{Setting, is_among, lines_of}
 use Rattle.config_keys.specs.Reading.{ConfigSays, PluginSays, completed, config_from, config_of, config_with, judged, lacks_key, plugins_for, shares_name}
-use Rattle.config_keys.specs.Values.{are_apart}
+use Rattle.config_keys.specs.Values.{are_apart, are_new}
 use Rattle.config_keys.specs.declared.fault.ConfigCause.TheVariants.{MissingKey, SameName}
 use Rattle.config_keys.specs.declared.fault.ConfigFault.{ConfigFault}
 use Rattle.config_keys.specs.declared.fault.ConfigFault.TheVariants.{At}
 use Rattle.config_keys.specs.ConfigViews.{plugin_says, says}
-use Rattle.config_keys.specs.declared.config.Config.{Config}
 use Rattle.config_keys.specs.declared.plugin.PluginConfig.{PluginConfig}
 use Rattle.config_keys.specs.declared.tool.Tool.{Tool}
 use Rattle.config_keys.specs.declared.tool.Tool.TheVariants.{Nfacctd, Sfacctd, Pmbgpd}
-use Rattle.acct_top.specs.Job.{collects, is_one_print, is_unbuilt}
+use Rattle.acct_top.specs.Conservation.{IsNoOutput}
+use Rattle.acct_top.specs.Job.{IsReplay, capture_of}
+use Rattle.acct_top.specs.Run.{AreApart, HaveOwnFiles}
 
 -- ---- no two names of an accepted configuration are the same
 
@@ -39,98 +43,128 @@ from_apart tool (Ok settings) accepted h = completed_apart tool settings (plugin
 pub accepted_apart : (tool : Tool) (text : List ℕ) (accepted : ConfigSays) → config_of tool text ≡ Ok accepted → shares_name accepted ≡ false
 accepted_apart tool text accepted h = from_apart tool (settings_of (lines_of text)) accepted h
 
-split : (a b : Bool) → (a || b) ≡ false → (a ≡ false) × (b ≡ false)
-split true b h = cc h
-split false b h = (refl, h)
+-- ---- what is built
+
+either : (a b : Bool) → (a || b) ≡ false → (a ≡ false) × (b ≡ false)
+either true b h = cc h
+either false b h = (refl, h)
 
 first_and_third : (a b c : Bool) → (a || b || c) ≡ false → (a ≡ false) × (c ≡ false)
 first_and_third true b c h = cc h
 first_and_third false true c h = cc h
 first_and_third false false c h = (refl, h)
 
-first_two : (a b c d e : Bool) → (a || b || c || d || e) ≡ false → (a ≡ false) × (b ≡ false)
-first_two true b c d e h = cc h
-first_two false true c d e h = cc h
-first_two false false c d e h = (refl, refl)
-
--- what is built collects, and has one plugin that prints
-parts_built : (config : ConfigSays) → is_unbuilt config ≡ false → (not (collects config.tool) ≡ false) × (not (is_one_print config.plugins) ≡ false)
-parts_built config built =
-    first_two (not (collects config.tool)) (not (is_one_print config.plugins)) config.bgp_daemon config.bmp_daemon (is_some config.bgp_agent_map) built
-
--- the tool is a collector's
-pub is_collector : (config : ConfigSays) → is_unbuilt config ≡ false → config.tool ≢ Pmbgpd
-is_collector config built is = let no : not (collects config.tool) ≡ true = ap (λ (t : Tool). not (collects t)) is in let both : true ≡ false = sym no ∙ (parts_built config built).0 in cc both
+first_three : (a b c d : Bool) → (a || b || c || d) ≡ false → (a ≡ false) × (b ≡ false) × (c ≡ false)
+first_three true b c d h = cc h
+first_three false true c d h = cc h
+first_three false false true d h = cc h
+first_three false false false d h = (refl, refl, refl)
 
 is_true : (b : Bool) → not b ≡ false → b ≡ true
 is_true true h = refl
 is_true false h = cc h
 
+-- what is built collects, without routes
+pub record IsCollector (job : Job) : Type 0 where
+  pub collects : collects job.config.tool ≡ true
+  pub no_bgp : job.config.bgp_daemon ≡ false
+  pub no_bmp : job.config.bmp_daemon ≡ false
+
+pub is_collector : (job : Job) → IsReplay job → IsCollector job
+is_collector job is =
+    let parts = first_three (not (collects job.config.tool)) job.config.bgp_daemon job.config.bmp_daemon (is_some job.config.bgp_agent_map) is.built in
+    record { collects = is_true _ parts.0; no_bgp = parts.1; no_bmp = parts.2 }
+
+-- ---- names that are apart
+
 differ : (xs ys : List ℕ) → bytes_eq xs ys ≡ false → xs ≢ ys
 differ xs ys h same = let e : true ≡ false = sym ((bytes_eq-Decides xs ys).1 same) ∙ h in cc e
 
-one_is_new : (same : Bool) → not (not (same || false) && true) ≡ false → same ≡ false
-one_is_new true h = cc h
-one_is_new false h = refl
+files : List PluginConfig → List (List ℕ)
+files plugins = map (λ (plugin : PluginSays). plugin.file) (map plugin_says plugins)
 
--- two outputs and a capture that share no name
-three_apart : (audit file capture : List ℕ) (rest : List (List ℕ)) (captures : Bool)
-    → (not (are_apart (audit ∷ file ∷ [])) || captures || list_any (λ name. is_among (capture ∷ rest) name) (audit ∷ file ∷ [])) ≡ false
-    → (file ≢ capture) × (file ≢ audit) × (capture ≢ audit)
-three_apart audit file capture rest captures h =
-    let taken = λ (name : List ℕ). is_among (capture ∷ rest) name in
-    let outputs = first_and_third (not (are_apart (audit ∷ file ∷ []))) captures (list_any taken (audit ∷ file ∷ [])) h in
-    let inputs = split (taken audit) (taken file || false) outputs.1 in
-    let of_audit = split (bytes_eq capture audit) (is_among rest audit) inputs.0 in
-    let of_file = split (bytes_eq capture file) (is_among rest file) (split (taken file) false inputs.1).0 in
-    let not_audit = differ audit file (one_is_new (bytes_eq audit file) outputs.0) in
-    (λ same. differ capture file of_file.0 (sym same), λ same. not_audit (sym same), differ capture audit of_audit.0)
+new_first : (a b : Bool) → (not a && b) ≡ true → (a ≡ false) × (b ≡ true)
+new_first true b h = cc h
+new_first false b h = (refl, h)
 
--- the names of what is built are three
-pub record AreThree (plugin : PluginSays) (capture audit : List ℕ) : Type 0 where
-  pub output_capture : plugin.file ≢ capture
-  pub output_audit : plugin.file ≢ audit
-  pub capture_audit : capture ≢ audit
+or_right : (a b : Bool) → b ≡ true → (a || b) ≡ true
+or_right true b h = refl
+or_right false b h = h
 
-tool_apart : (tool : Tool) (config : ConfigSays) (plugin : PluginSays) (capture : List ℕ) → collects tool ≡ true → config.tool ≡ tool → config.plugins ≡ plugin ∷ []
-    → config.acct_flow_capture ≡ Some capture → shares_name config ≡ false → AreThree plugin capture config.acct_audit_file
-tool_apart Nfacctd config plugin capture is tool plugins found none =
-    let names = three_apart config.acct_audit_file plugin.file capture _ _ (rw (tool, plugins, found) at none) in
-    record { output_capture = names.0; output_audit = names.1; capture_audit = names.2 }
-tool_apart Sfacctd config plugin capture is tool plugins found none =
-    let names = three_apart config.acct_audit_file plugin.file capture _ _ (rw (tool, plugins, found) at none) in
-    record { output_capture = names.0; output_audit = names.1; capture_audit = names.2 }
-tool_apart Pmbgpd config plugin capture is tool plugins found none = cc is
+or_left : (a b : Bool) → a ≡ true → (a || b) ≡ true
+or_left true b h = refl
+or_left false b h = cc h
 
-pub job_apart : (config : ConfigSays) (plugin : PluginSays) (capture : List ℕ) → is_unbuilt config ≡ false → config.plugins ≡ plugin ∷ []
-    → config.acct_flow_capture ≡ Some capture → shares_name config ≡ false → AreThree plugin capture config.acct_audit_file
-job_apart config plugin capture built plugins found none = tool_apart config.tool config plugin capture (is_true _ (parts_built config built).0) refl plugins found none
+-- the names are those of no text before them
+none_before : (before : List (List ℕ)) (text : List ℕ) (plugins : List PluginConfig) → is_among before text ≡ true → are_new before (files plugins) ≡ true → All (λ (plugin : PluginConfig). text ≢ plugin.file) plugins
+unfolding files
+none_before before text [] among new = All-nil (λ (plugin : PluginConfig). text ≢ plugin.file)
+none_before before text (plugin ∷ plugins) among new =
+    let parts = new_first (is_among before plugin.file) (are_new (plugin.file ∷ before) (files plugins)) new in
+    All-cons (λ (other : PluginConfig). text ≢ other.file) plugin plugins
+    (λ same. let e : true ≡ false = sym among ∙ ap (is_among before) same ∙ parts.0 in cc e)
+    (none_before (plugin.file ∷ before) text plugins (or_right (bytes_eq plugin.file text) (is_among before text) among) parts.1)
 
--- one print plugin is the only one
-pub only_plugin : (before : List PluginConfig) (last : PluginConfig) → is_one_print (map plugin_says (before ++ last ∷ [])) ≡ true → before ≡ []
-only_plugin [] last h = refl
-only_plugin (plugin ∷ []) last h = cc h
-only_plugin (plugin ∷ next ∷ before) last h = cc h
+own_files : (before : List (List ℕ)) (plugins : List PluginConfig) → are_new before (files plugins) ≡ true → HaveOwnFiles plugins
+unfolding files
+own_files before [] new = tt
+own_files before (plugin ∷ plugins) new =
+    let parts = new_first (is_among before plugin.file) (are_new (plugin.file ∷ before) (files plugins)) new in (
+      none_before (plugin.file ∷ before) plugin.file plugins (or_left (bytes_eq plugin.file plugin.file) (is_among before plugin.file) ((bytes_eq-Decides plugin.file plugin.file).1 refl)) parts.1,
+      own_files (plugin.file ∷ before) plugins parts.1,
+    )
 
-one_print : (config : ConfigSays) → is_unbuilt config ≡ false → is_one_print config.plugins ≡ true
-one_print config built = is_true _ (parts_built config built).1
+-- an input is none of the names
+none_is_input : (input : List ℕ) (others : List (List ℕ)) (plugins : List PluginConfig) → list_any (λ name. is_among (input ∷ others) name) (files plugins) ≡ false → All (λ (plugin : PluginConfig). input ≢ plugin.file) plugins
+unfolding files
+none_is_input input others [] none = All-nil (λ (plugin : PluginConfig). input ≢ plugin.file)
+none_is_input input others (plugin ∷ plugins) none =
+    let parts = either (is_among (input ∷ others) plugin.file) (list_any (λ name. is_among (input ∷ others) name) (files plugins)) none in
+    All-cons (λ (other : PluginConfig). input ≢ other.file) plugin plugins
+    (differ input plugin.file (either (bytes_eq input plugin.file) (is_among others plugin.file) parts.0).0)
+    (none_is_input input others plugins parts.1)
 
--- what a built configuration's job names
-pub record AreNames (config : Config) (before : List PluginConfig) (plugin : PluginConfig) (capture : List ℕ) : Type 0 where
-  pub output_capture : plugin.file ≢ capture
-  pub output_audit : plugin.file ≢ config.acct_audit_file
-  pub capture_audit : capture ≢ config.acct_audit_file
-  pub only : map plugin_says config.plugins ≡ plugin_says plugin ∷ []
+-- the outputs of a job are apart, and the capture is none of them
+pub record AreNames (job : Job) : Type 0 where
+  pub outputs : AreApart job.config.acct_audit_file job.config.plugins
+  pub capture : IsNoOutput job (capture_of job)
 
-pub job_names : (config : Config) (before : List PluginConfig) (plugin : PluginConfig) (capture : List ℕ) → is_unbuilt (says config) ≡ false → shares_name (says config) ≡ false
-    → config.plugins ≡ before ++ plugin ∷ [] → config.acct_flow_capture ≡ Some capture → AreNames config before plugin capture
-job_names config before plugin capture built none plugins found =
-    let last : is_one_print (map plugin_says (before ++ plugin ∷ [])) ≡ true = subst (λ (ps : List PluginConfig). is_one_print (map plugin_says ps) ≡ true) plugins (one_print (says config) built) in
-    let first : before ≡ [] = only_plugin before plugin last in
-    let only : map plugin_says config.plugins ≡ plugin_says plugin ∷ [] = ap (map plugin_says) plugins ∙ ap (λ (ps : List PluginConfig). map plugin_says (ps ++ plugin ∷ [])) first in
-    let three = job_apart (says config) (plugin_says plugin) capture built only found none in
-    record { output_capture = three.output_capture; output_audit = three.output_audit; capture_audit = three.capture_audit; only = only }
+apart_of : (audit capture : List ℕ) (plugins : List PluginConfig) (others : List (List ℕ)) (captures : Bool)
+    → (not (are_apart (audit ∷ files plugins)) || captures || list_any (λ name. is_among (capture ∷ others) name) (audit ∷ files plugins)) ≡ false
+    → AreApart audit plugins × All (λ (plugin : PluginConfig). capture ≢ plugin.file) plugins × (capture ≢ audit)
+apart_of audit capture plugins others captures h =
+    let parts = first_and_third (not (are_apart (audit ∷ files plugins))) captures (list_any (λ name. is_among (capture ∷ others) name) (audit ∷ files plugins)) h in
+    let new : are_new (audit ∷ []) (files plugins) ≡ true = (new_first false (are_new (audit ∷ []) (files plugins)) (is_true (are_apart (audit ∷ files plugins)) parts.0)).1 in
+    let inputs = either (is_among (capture ∷ others) audit) (list_any (λ name. is_among (capture ∷ others) name) (files plugins)) parts.1 in
+    let not_audit = none_before (audit ∷ []) audit plugins (or_left (bytes_eq audit audit) false ((bytes_eq-Decides audit audit).1 refl)) new in (
+      record {
+        own = own_files (audit ∷ []) plugins new;
+        not_audit = All-weaker (λ (plugin : PluginConfig). audit ≢ plugin.file) (λ (plugin : PluginConfig). plugin.file ≢ audit) (λ plugin no same. no (sym same)) plugins not_audit;
+      },
+      none_is_input capture others plugins inputs.1,
+      differ capture audit (either (bytes_eq capture audit) (is_among others audit) inputs.0).0,
+    )
 
-pub popped : {X : Type 0} (o : Option X) (old new : List X) (x : X) → MatchOption o ((old ≡ []) × (new ≡ [])) (λ last. old ≡ new ++ last ∷ []) → o ≡ Some x → old ≡ new ++ x ∷ []
-popped None old new x h e = cc e
-popped (Some y) old new x h e = let same : Some y ≡ Some x = e in let one : y ≡ x = cc same in subst (λ (z : _). old ≡ new ++ z ∷ []) one h
+-- the same of a configuration with that tool and that capture
+by_parts : (config : ConfigSays) (tool : Tool) (flows : Option (List ℕ)) → config.tool ≡ tool → config.acct_flow_capture ≡ flows → shares_name config ≡ false → shares_name (record config { tool = tool; acct_flow_capture = flows }) ≡ false
+by_parts config tool flows tools captures none = sym (λ i. shares_name (record config { tool = tools i; acct_flow_capture = captures i })) ∙ none
+
+tool_apart : (tool : Tool) (job : Job) (capture : List ℕ) → collects tool ≡ true → job.config.tool ≡ tool → job.config.acct_flow_capture ≡ Some capture → shares_name (says job.config) ≡ false
+    → AreApart job.config.acct_audit_file job.config.plugins × All (λ (plugin : PluginConfig). capture ≢ plugin.file) job.config.plugins × (capture ≢ job.config.acct_audit_file)
+unfolding files
+tool_apart Nfacctd job capture is tool found none = apart_of job.config.acct_audit_file capture job.config.plugins _ _ (by_parts (says job.config) Nfacctd (Some capture) tool found none)
+tool_apart Sfacctd job capture is tool found none = apart_of job.config.acct_audit_file capture job.config.plugins _ _ (by_parts (says job.config) Sfacctd (Some capture) tool found none)
+tool_apart Pmbgpd job capture is tool found none = cc is
+
+pub job_names : (job : Job) → IsReplay job → AreNames job
+job_names job is = by job.config.acct_flow_capture refl is.captured
+  where
+    by : (o : Option (List ℕ)) → job.config.acct_flow_capture ≡ o → is_some o ≡ true → AreNames job
+    by None found some = cc some
+    by (Some capture) found some =
+        let names = tool_apart job.config.tool job capture (is_collector job is).collects refl found is.apart in
+        let this : capture ≡ capture_of job = ap (λ (o : Option (List ℕ)). unwrap_or o []) (sym found) in
+        record {
+          outputs = names.0;
+          capture = subst (λ (name : List ℕ). IsNoOutput job name) this (record { plugins = names.1; audit = names.2 });
+        }

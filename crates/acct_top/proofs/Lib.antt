@@ -1,5 +1,7 @@
-pub mod CountLemmas
+pub mod CloseLemmas
+pub mod EndLemmas
 pub mod JobLemmas
+pub mod OpenLemmas
 pub mod ReadingLemmas
 pub mod RunLemmas
 pub mod TopLemmas

@@ -1,17 +1,16 @@
 -- What is read before a run is one thing: a job, or one refusal.
-use Rattle.std.proofs.Common.{◌≡◌, ◌∙◌, ◌≤◌, [], ◌∷◌, ℕ, List, Option, None, Some, refl, sym, ap, subst, length, inl, inr, arith}
-use Rattle.std.specs.Prelude.{◌⊎◌, Err, Ok, Result}
+use Rattle.std.proofs.Common.{◌≡◌, ◌∙◌, ◌≤◌, [], ℕ, List, Option, None, Some, refl, sym, ap, subst, length, inl, inr, arith}
+use Rattle.std.specs.Prelude.{◌⊎◌, Err, Ok, Result, true, false, is_some}
 use Rattle.outside_io.specs.Causes.{Rose}
 use Rattle.outside_io.specs.Names.{Names}
 use Rattle.acct_top.specs.declared.answer.AnyCause.{AnyCause}
 use Rattle.acct_top.specs.declared.answer.AnyCause.TheVariants.{Config, Map, TooLong}
 use Rattle.acct_top.specs.declared.answer.Answer.{Answer}
-use Rattle.acct_top.specs.declared.answer.Answer.TheVariants.{Done, Usage, ConfigRefused, OpenFault, FlowFault, CaptureBad, WriteFault, SayFault, NoMemory}
-use Rattle.acct_top.specs.declared.job.Job.{Job}
+use Rattle.acct_top.specs.declared.answer.Answer.TheVariants.{Done, Usage, ConfigRefused, OpenFault, FlowFault, CaptureTorn, CaptureBad, WriteFault, SayFault, TooMany, NoMemory}
+use Rattle.collect_core.specs.declared.job.Job.{Job}
 use Rattle.acct_top.specs.Answers.{IsSameJob}
-use Rattle.acct_top.specs.Job.{as_of, built_config, renormalises}
+use Rattle.acct_top.specs.Job.{built_config}
 use Rattle.acct_top.specs.Reading.{AreSamplings, AreTags, GivesNoJob, HasConfigCause, HasMapCause, IsJob, IsMap, IsMapRefusal, IsMapRefused, IsNoJob, IsRefused, IsRefusedLater, MOST_TEXT, Says}
-use Rattle.config_keys.specs.ConfigViews.{plugin_says}
 use Rattle.config_keys.specs.Reading.{ConfigSays}
 use Rattle.config_keys.specs.declared.fault.ConfigCause.TheVariants.{MissingKey}
 use Rattle.config_keys.specs.declared.fault.ConfigFault.TheVariants as config
@@ -130,7 +129,10 @@ one_refusal tool file names name other line number a b (inr h) (inr k) =
 refused_later_or_not : (job : Job) (tool : Tool) (file : List ℕ) (names : Names) (name : List ℕ) (line : ℕ) (cause : AnyCause) (j : IsJob job tool file names) → IsRefusedLater j.config file names name line cause → ⊥
 refused_later_or_not job tool file names name line cause j (inl r) = map_refused_or_not tag_map_of [] names j.config.pre_tag_map name line cause job.tags r j.tags
 refused_later_or_not job tool file names name line cause j (inr (tags, are, inl r)) = map_refused_or_not sampling_map_of [] names j.config.sampling_map name line cause job.samplings r j.samplings
-refused_later_or_not job tool file names name line cause j (inr (tags, are, inr (samplings, they, r))) = let no : None ≡ Some job.capture = sym r.lacks ∙ j.is.capture in cc no
+refused_later_or_not job tool file names name line cause j (inr (tags, are, inr (samplings, they, r))) =
+    let none : job.config.acct_flow_capture ≡ None = ap (λ (c : ConfigSays). c.acct_flow_capture) j.is.config_is ∙ r.lacks in
+    let no : true ≡ false = sym j.is.replay.captured ∙ ap (λ (o : Option (List ℕ)). is_some o) none in
+    cc no
 
 pub refused_or_not : (job : Job) (tool : Tool) (file : List ℕ) (names : Names) (name : List ℕ) (line : ℕ) (cause : AnyCause) → GivesNoJob tool file names name line cause → IsJob job tool file names → ⊥
 refused_or_not job tool file names name line cause (inl r) j = config_refused_or_not tool file names line cause j.config r.1 j.said
@@ -141,17 +143,10 @@ refused_or_not job tool file names name line cause (inr r) j =
 pub same_job : (some other : Job) (tool : Tool) (file : List ℕ) (names : Names) → IsJob some tool file names → IsJob other tool file names → IsSameJob some other
 same_job some other tool file names h k =
     let same : h.config ≡ k.config = same_said (built_config tool file) names file h.config k.config h.said k.said in
-    let plugins : plugin_says some.plugin ∷ [] ≡ plugin_says other.plugin ∷ [] = sym h.is.plugin ∙ ap (λ (c : ConfigSays). c.plugins) same ∙ k.is.plugin in
-    let captures : Some some.capture ≡ Some other.capture = sym h.is.capture ∙ ap (λ (c : ConfigSays). c.acct_flow_capture) same ∙ k.is.capture in
     record {
-      tool = sym h.is.tool ∙ ap (λ (c : ConfigSays). c.tool) same ∙ k.is.tool;
-      plugin = cc plugins;
-      as_from = sym h.is.as_from ∙ ap as_of same ∙ k.is.as_from;
-      renormalise = sym h.is.renormalise ∙ ap renormalises same ∙ k.is.renormalise;
+      config = h.is.config_is ∙ same ∙ sym k.is.config_is;
       tags = same_map tag_map_of [] names k.config.pre_tag_map some.tags other.tags (subst (λ (c : ConfigSays). IsMap tag_map_of [] names c.pre_tag_map some.tags) same h.tags) k.tags;
       samplings = same_map sampling_map_of [] names k.config.sampling_map some.samplings other.samplings (subst (λ (c : ConfigSays). IsMap sampling_map_of [] names c.sampling_map some.samplings) same h.samplings) k.samplings;
-      capture = cc captures;
-      audit = sym h.is.audit ∙ ap (λ (c : ConfigSays). c.acct_audit_file) same ∙ k.is.audit;
     }
 
 -- ---- the steps of reading
@@ -167,7 +162,9 @@ tags_refused NoMemory tool file names this s h = tt
 tags_refused Done tool file names this s h = h
 tags_refused Usage tool file names this s h = h
 tags_refused FlowFault tool file names this s h = h
+tags_refused (CaptureTorn flows place) tool file names this s h = h
 tags_refused (CaptureBad flows place cause) tool file names this s h = h
+tags_refused (TooMany which) tool file names this s h = h
 tags_refused (WriteFault name) tool file names this s h = h
 tags_refused SayFault tool file names this s h = h
 
@@ -180,7 +177,9 @@ samplings_refused NoMemory tool file names this tags s t h = tt
 samplings_refused Done tool file names this tags s t h = h
 samplings_refused Usage tool file names this tags s t h = h
 samplings_refused FlowFault tool file names this tags s t h = h
+samplings_refused (CaptureTorn flows place) tool file names this tags s t h = h
 samplings_refused (CaptureBad flows place cause) tool file names this tags s t h = h
+samplings_refused (TooMany which) tool file names this tags s t h = h
 samplings_refused (WriteFault name) tool file names this tags s t h = h
 samplings_refused SayFault tool file names this tags s t h = h
 

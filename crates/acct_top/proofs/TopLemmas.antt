@@ -1,22 +1,38 @@
 -- From what holds of a job to what holds of the words, and the answers that are owed.
-use Rattle.std.proofs.Common.{◌≡◌, ◌∙◌, ◌++◌, ◌≤◌, [], ℕ, List, Option, Some, refl, sym, ap, subst, inl, inr}
-use Rattle.std.specs.Prelude.{Bool}
+use Rattle.std.proofs.Common.{◌≡◌, ◌∙◌, ◌≢◌, ◌++◌, ◌≤◌, [], ◌∷◌, ℕ, List, Bool, Option, Some, refl, sym, ap, subst, length, inl, inr}
+use Rattle.std.specs.Prelude.{◌-◌, All, nat_lt, if◌then◌else◌, unwrap_or, slice_index_or}
+use Rattle.std.proofs.lemmas.List.{append-nil}
 use Rattle.acct_types.specs.declared.datagram.Datagram.{Datagram}
+use Rattle.capture_file.specs.Capture.{datagrams_of, end_of}
+use Rattle.collect_core.specs.declared.job.Job.{Job}
+use Rattle.collect_core.specs.Due.{all_behind, records_in, records_of, rows_in}
+use Rattle.collect_core.specs.Flows.{fitting, up_to_limit}
+use Rattle.collect_core.specs.Job.{renormalises}
+use Rattle.collect_core.specs.Most.{FULL}
+use Rattle.config_keys.specs.ConfigViews.{says}
+use Rattle.config_keys.specs.Reading.{ConfigSays}
+use Rattle.config_keys.specs.declared.plugin.PluginConfig.{PluginConfig}
+use Rattle.config_keys.specs.declared.tool.Tool.{Tool}
+use Rattle.flow_decode.specs.Counting.{answer_of}
+use Rattle.flow_decode.specs.History.{decoded_behind}
 use Rattle.outside_io.specs.Causes.{Rose}
-use Rattle.outside_io.specs.Names.{Names, old_octets}
+use Rattle.outside_io.specs.Names.{Names}
+use Rattle.outside_io.specs.declared.ends.SideEnd.{SideEnd}
+use Rattle.outside_io.specs.declared.ends.SideEnd.TheVariants as side
+use Rattle.outside_io.specs.declared.ends.Which.TheVariants as which
+use Rattle.plugin_work.specs.Output.{texts_of}
+use Rattle.pretag_map.specs.SamplingLines.{SamplingLine}
 use Rattle.acct_top.specs.declared.answer.AnyCause.{AnyCause}
 use Rattle.acct_top.specs.declared.answer.Answer.{Answer}
-use Rattle.acct_top.specs.declared.answer.Answer.TheVariants.{Done, Usage, ConfigRefused, OpenFault, FlowFault, CaptureBad, WriteFault, SayFault, NoMemory}
-use Rattle.acct_top.specs.declared.job.Job.{Job}
-use Rattle.acct_top.specs.Answers.{Accepts, HasReason, HaveOneJob, Holds, HoldsOfJob, IsConfigRefused, IsUnopened, NamesFile, RunReason}
+use Rattle.acct_top.specs.declared.answer.Answer.TheVariants.{Done, Usage, ConfigRefused, OpenFault, FlowFault, CaptureTorn, CaptureBad, WriteFault, SayFault, TooMany, NoMemory}
+use Rattle.acct_top.specs.Answers.{Accepts, HasReason, HaveOneJob, Holds, HoldsOfJob, IsConfigRefused, IsSameJob, IsStopped, IsUnopened, JobReason, NamesFile, OfJob, RunReason, side_answer}
 use Rattle.acct_top.specs.Complete.{HasCapture, IsOwed}
+use Rattle.acct_top.specs.Conservation.{HoldsOutput, HoldsOutputButFor, HoldsText, IsAccountedButFor, IsTaken, KeepsOthers, flow_end, flows_of, side_end, start_of}
+use Rattle.acct_top.specs.Job.{capture_of}
 use Rattle.acct_top.specs.Reading.{GivesNoJob, IsJob}
-use Rattle.acct_top.proofs.ReadingLemmas.{one_refusal, refused_or_not, rose_earlier, same_job, same_octets}
-use Rattle.config_keys.specs.declared.tool.Tool.{Tool}
-use Rattle.acct_top.specs.Conservation.{flows_of, HoldsText, IsAccountedButFor, IsWholeCapture, KeepsOthers}
-use Rattle.acct_top.specs.Output.{rows_text}
 use Rattle.acct_top.specs.Said.{IsSaidAs}
-use Rattle.acct_top.specs.State.{State}
+use Rattle.acct_top.specs.State.{OnlyRead, State}
+use Rattle.acct_top.proofs.ReadingLemmas.{one_refusal, refused_or_not, rose_earlier, same_job, same_octets}
 
 -- ---- a job that began a little later
 
@@ -29,61 +45,71 @@ pub record BeganLater (before middle : State) : Type 0 where
 text_earlier : (w w' : List ℕ → ℕ) (after : List ℕ → ℕ) (name start text : List ℕ) (octets : Option (List ℕ)) → w' ≡ w → HoldsText (Rose (w' name) (after name)) start text octets → HoldsText (Rose (w name) (after name)) start text octets
 text_earlier w w' after name start text octets same h = subst (λ (f : List ℕ → ℕ). HoldsText (Rose (f name) (after name)) start text octets) same h
 
+but_for_earlier : (job : Job) (flows : List Datagram) (before middle after : State) (plugin : PluginConfig) → BeganLater before middle → HoldsOutputButFor job flows middle after plugin → HoldsOutputButFor job flows before after plugin
+but_for_earlier job flows before middle after plugin b h = record {
+  purges = h.purges;
+  are = h.are;
+  output = subst (λ (n : Names). HoldsText (Rose (before.writes plugin.file) (after.writes plugin.file)) (start_of n plugin) (texts_of plugin h.purges) (after.names plugin.file)) b.names
+      (text_earlier before.writes middle.writes after.writes plugin.file _ _ _ b.writes h.output);
+  sums = h.sums;
+}
+
 accounted_earlier : (job : Job) (flows : List Datagram) (before middle after : State) → BeganLater before middle → IsAccountedButFor job flows middle after → IsAccountedButFor job flows before after
 accounted_earlier job flows before middle after b a = record {
-  audit = text_earlier before.writes middle.writes after.writes job.audit [] _ _ b.writes a.audit;
-  rows = a.rows;
-  purge = a.purge;
-  output = subst (λ (n : Names). HoldsText (Rose (before.writes job.plugin.file) (after.writes job.plugin.file)) (old_octets n job.plugin.file) (rows_text job a.rows) (after.names job.plugin.file)) b.names
-      (text_earlier before.writes middle.writes after.writes job.plugin.file _ _ _ b.writes a.output);
-  sums = a.sums;
+  audit = text_earlier before.writes middle.writes after.writes job.config.acct_audit_file [] _ _ b.writes a.audit;
+  plugins = λ k d lt. but_for_earlier job flows before middle after (slice_index_or job.config.plugins k d) b (a.plugins k d lt);
   others = subst (λ (n : Names). KeepsOthers job n after.names) b.names a.others;
 }
 
-capture_earlier : (job : Job) (before middle : State) (octets : List ℕ) → BeganLater before middle → middle.names job.capture ≡ Some octets → before.names job.capture ≡ Some octets
-capture_earlier job before middle octets b h = sym (ap (λ (n : Names). n job.capture) b.names) ∙ h
+taken_earlier : (job : Job) (before middle after : State) (octets rest : List ℕ) → BeganLater before middle → IsTaken job middle after octets rest → IsTaken job before after octets rest
+taken_earlier job before middle after octets rest b h = record { capture = sym (ap (λ (n : Names). n (capture_of job)) b.names) ∙ h.capture; taken = h.taken }
+
+whole_earlier : (job : Job) (flows : List Datagram) (before middle after : State) (plugins : List PluginConfig) → BeganLater before middle → All (HoldsOutput job flows middle.names after.names) plugins → All (HoldsOutput job flows before.names after.names) plugins
+whole_earlier job flows before middle after plugins b h = subst (λ (n : Names). All (HoldsOutput job flows n after.names) plugins) b.names h
+
+stopped_earlier : (job : Job) (answer : Answer) (before middle after : State) → BeganLater before middle → IsStopped job answer middle after → IsStopped job answer before after
+stopped_earlier job answer before middle after b h = record {
+  octets = h.octets;
+  rest = h.rest;
+  taken = taken_earlier job before middle after h.octets h.rest b h.taken;
+  says = h.says;
+  whole_says = h.whole_says;
+  accounted = accounted_earlier job (flows_of job h.octets) before middle after b h.accounted;
+}
 
 pub job_earlier : (answer : Answer) (job : Job) (before middle after : State) → BeganLater before middle → HoldsOfJob answer job middle after → HoldsOfJob answer job before after
 job_earlier Done job before middle after b h = record {
   octets = h.octets;
-  capture = capture_earlier job before middle h.octets b h.capture;
-  whole = h.whole;
-  taken = h.taken;
+  taken = taken_earlier job before middle after h.octets [] b h.taken;
+  ended = h.ended;
   accounted = record {
     audit = h.accounted.audit;
-    rows = h.accounted.rows;
-    purge = h.accounted.purge;
-    output = subst (λ (n : Names). after.names job.plugin.file ≡ Some (old_octets n job.plugin.file ++ rows_text job h.accounted.rows)) b.names h.accounted.output;
-    sums = h.accounted.sums;
+    plugins = whole_earlier job (flows_of job h.octets) before middle after job.config.plugins b h.accounted.plugins;
     others = subst (λ (n : Names). KeepsOthers job n after.names) b.names h.accounted.others;
   };
 }
 job_earlier FlowFault job before middle after b h = record {
   octets = h.octets;
   rest = h.rest;
-  capture = sym (ap (λ (n : Names). n job.capture) b.names) ∙ h.capture;
-  taken = h.taken;
-  failed = rose_earlier _ _ _ (b.reads job.capture) h.failed;
-  accounted = accounted_earlier job (flows_of h.octets) before middle after b h.accounted;
+  taken = taken_earlier job before middle after h.octets h.rest b h.taken;
+  failed = rose_earlier _ _ _ (b.reads (capture_of job)) h.failed;
+  few = h.few;
+  accounted = accounted_earlier job (flows_of job h.octets) before middle after b h.accounted;
 }
-job_earlier (CaptureBad flows place cause) job before middle after b h = (
-  h.0,
-  h.1,
-  h.2,
-  record {
-    octets = h.3.octets;
-    capture = capture_earlier job before middle h.3.octets b h.3.capture;
-    bad = h.3.bad;
-    accounted = accounted_earlier job (flows_of h.3.octets) before middle after b h.3.accounted;
-  },
-)
+job_earlier (CaptureTorn flows place) job before middle after b h = stopped_earlier job (CaptureTorn flows place) before middle after b h
+job_earlier (CaptureBad flows place cause) job before middle after b h = stopped_earlier job (CaptureBad flows place cause) before middle after b h
+job_earlier (TooMany which) job before middle after b h = stopped_earlier job (TooMany which) before middle after b h
 job_earlier (WriteFault name) job before middle after b h = record {
   octets = h.octets;
-  capture = capture_earlier job before middle h.octets b h.capture;
-  whole = h.whole;
+  taken = taken_earlier job before middle after h.octets [] b h.taken;
+  ended = h.ended;
+  first = h.first;
+  others = h.others;
+  splits = h.splits;
   which = h.which;
+  whole = whole_earlier job (flows_of job h.octets) before middle after h.first b h.whole;
   failed = subst (λ (f : List ℕ → ℕ). Rose (f name) (after.writes name)) b.writes h.failed;
-  accounted = accounted_earlier job (flows_of h.octets) before middle after b h.accounted;
+  accounted = accounted_earlier job (flows_of job h.octets) before middle after b h.accounted;
 }
 job_earlier (OpenFault name) job before middle after b h = subst (λ (n : Names). IsUnopened job name n after.names) b.names h
 job_earlier NoMemory job before middle after b h = tt
@@ -95,7 +121,9 @@ job_earlier SayFault job before middle after b h = absurd h
 pub holds_of_words : (answer : Answer) (tool : Tool) (words : List (List ℕ)) (job : Job) (before after : State) → Accepts tool words before.names job → HoldsOfJob answer job before after → Holds answer tool words before after
 holds_of_words Done tool words job before after a h = (job, a, h)
 holds_of_words FlowFault tool words job before after a h = (job, a, h)
-holds_of_words (CaptureBad flows place cause) tool words job before after a h = (h.0, h.1, h.2, (job, a, h.3))
+holds_of_words (CaptureTorn flows place) tool words job before after a h = (job, a, h)
+holds_of_words (CaptureBad flows place cause) tool words job before after a h = (job, a, h)
+holds_of_words (TooMany which) tool words job before after a h = (job, a, h)
 holds_of_words (WriteFault name) tool words job before after a h = (job, a, h)
 holds_of_words (OpenFault name) tool words job before after a h = inr (job, a, h)
 holds_of_words NoMemory tool words job before after a h = tt
@@ -103,7 +131,21 @@ holds_of_words Usage tool words job before after a h = absurd h
 holds_of_words (ConfigRefused file line cause) tool words job before after a h = absurd h
 holds_of_words SayFault tool words job before after a h = absurd h
 
--- ---- the answers that are owed
+-- a reason of a job is one of the words
+pub reason_of_words : (answer : Answer) (tells : Bool) (tool : Tool) (words : List (List ℕ)) (before middle after : State) → OnlyRead before middle → JobReason answer middle after → RunReason answer tells tool words before after
+reason_of_words Done tells tool words before middle after b h = tt
+reason_of_words FlowFault tells tool words before middle after b h = (h.0, rose_earlier _ _ _ (b.reads h.0) h.1)
+reason_of_words (CaptureTorn flows place) tells tool words before middle after b h = tt
+reason_of_words (CaptureBad flows place cause) tells tool words before middle after b h = tt
+reason_of_words (TooMany which) tells tool words before middle after b h = tt
+reason_of_words (WriteFault name) tells tool words before middle after b h = subst (λ (f : List ℕ → ℕ). Rose (f name) (after.writes name)) b.writes h
+reason_of_words (OpenFault name) tells tool words before middle after b h = inl (rose_earlier _ _ _ (b.opens name) h)
+reason_of_words NoMemory tells tool words before middle after b h = tt
+reason_of_words Usage tells tool words before middle after b h = absurd h
+reason_of_words (ConfigRefused file line cause) tells tool words before middle after b h = absurd h
+reason_of_words SayFault tells tool words before middle after b h = absurd h
+
+-- ---- jobs that ask for the same
 
 same_file : (tool : Tool) (words : List (List ℕ)) (a b : List ℕ) → NamesFile tool words a → NamesFile tool words b → a ≡ b
 same_file tool words a b h k = let found : Some a ≡ Some b = sym h.1 ∙ k.1 in cc found
@@ -112,19 +154,59 @@ pub one_job : HaveOneJob
 one_job tool words names some other a b =
     same_job some other tool a.file names a.is_job (subst (λ (f : List ℕ). IsJob other tool f names) (sym (same_file tool words a.file b.file a.named b.named)) b.is_job)
 
-one_capture : (tool : Tool) (words : List (List ℕ)) (names : Names) (some other : Job) → Accepts tool words names some → Accepts tool words names other → some.capture ≡ other.capture
-one_capture tool words names some other a b = let same = one_job tool words names some other a b in same.capture
+module _ (some other : Job) (same : IsSameJob some other) where
+  same_capture : capture_of some ≡ capture_of other
+  same_capture = ap (λ (c : ConfigSays). unwrap_or c.acct_flow_capture []) same.config
+
+  same_records_in : (earlier : List Datagram) (d : Datagram) → records_in some earlier d ≡ records_in other earlier d
+  same_records_in earlier d =
+      ap (λ (c : ConfigSays). rows_in (answer_of (renormalises c) some.samplings (decoded_behind c.tool earlier d))) same.config
+      ∙ ap (λ (lines : List SamplingLine). rows_in (answer_of (renormalises (says other.config)) lines (decoded_behind other.config.tool earlier d))) same.samplings
+
+  same_behind : (earlier flows : List Datagram) → all_behind (records_in some) earlier flows ≡ all_behind (records_in other) earlier flows
+  same_behind earlier [] = refl
+  same_behind earlier (d ∷ later) = λ i. same_records_in earlier d i ++ same_behind (d ∷ earlier) later i
+
+  same_limit : (most : ℕ) (earlier flows : List Datagram) → up_to_limit some most earlier flows ≡ up_to_limit other most earlier flows
+  same_limit most earlier [] = refl
+  same_limit most earlier (d ∷ later) =
+      ap (λ (ds : List Datagram). d ∷ (if nat_lt most (length (records_in some earlier d)) then [] else ds)) (same_limit (most - length (records_in some earlier d)) (d ∷ earlier) later)
+      ∙ ap (λ (count : ℕ). d ∷ (if nat_lt most count then [] else up_to_limit other (most - count) (d ∷ earlier) later)) (ap length (same_records_in earlier d))
+
+  same_flows : (octets : List ℕ) → flows_of some octets ≡ flows_of other octets
+  same_flows octets = same_limit FULL.records [] (fitting FULL.octets (datagrams_of FULL.octets octets))
+
+  same_end : (octets : List ℕ) → flow_end some octets ≡ flow_end other octets
+  same_end octets =
+      ap (λ (count : ℕ). if nat_lt FULL.records count then side.TooMany which.Records else side_end (end_of FULL.octets octets))
+      (ap (λ (ds : List Datagram). length (records_of some ds)) (same_flows octets) ∙ ap length (same_behind [] (flows_of other octets)))
+
+-- ---- the answers that are owed
 
 not_both : (tool : Tool) (words : List (List ℕ)) (names : Names) (name : List ℕ) (line : ℕ) (cause : AnyCause) (job : Job) → IsConfigRefused tool words name line cause names → Accepts tool words names job → ⊥
 not_both tool words names name line cause job r a =
     refused_or_not job tool r.file names name line cause r.refused (subst (λ (f : List ℕ). IsJob job tool f names) (sym (same_file tool words r.file a.file r.named a.named)) a.is_job)
 
--- a capture is whole or it isn't
-bad_or_whole : (tool : Tool) (words : List (List ℕ)) (names : Names) (some other : Job) (octets : List ℕ) → Accepts tool words names some → Accepts tool words names other → names some.capture ≡ Some octets
-    → IsWholeCapture octets → HasCapture names other (λ o. IsWholeCapture o → ⊥) → ⊥
-bad_or_whole tool words names some other octets a b there whole bad =
-    let same : octets ≡ bad.0 = same_octets (names some.capture) octets bad.0 there (ap names (one_capture tool words names some other a b) ∙ bad.1) in
-    bad.2 (subst IsWholeCapture same whole)
+-- the capture of the words ends so
+abbrev Ends : Tool → List (List ℕ) → Names → SideEnd → Type 0
+Ends tool words names end = OfJob tool words names (λ job. HasCapture names job (λ octets. flow_end job octets ≡ end))
+
+-- the octets of a job's capture end as those of the words' capture do
+one_end : (tool : Tool) (words : List (List ℕ)) (names : Names) (job : Job) (octets : List ℕ) (end : SideEnd) → Accepts tool words names job → names (capture_of job) ≡ Some octets → Ends tool words names end → flow_end job octets ≡ end
+one_end tool words names job octets end a there e =
+    let same = one_job tool words names job e.0 a e.1 in
+    let one : octets ≡ e.2.0 = same_octets (names (capture_of job)) octets e.2.0 there (ap names (same_capture job e.0 same) ∙ e.2.1) in
+    same_end job e.0 same octets ∙ ap (flow_end e.0) one ∙ e.2.2
+
+-- a run that took a whole capture, which ended
+ended_or_not : (tool : Tool) (words : List (List ℕ)) (before after : State) (job : Job) (octets : List ℕ) (end : SideEnd) → Accepts tool words before.names job → IsTaken job before after octets [] → flow_end job octets ≡ side.Ended
+    → end ≢ side.Ended → Ends tool words before.names end → ⊥
+ended_or_not tool words before after job octets end a taken ended not e =
+    not (sym (one_end tool words before.names job (octets ++ []) end a taken.capture e) ∙ ap (flow_end job) (append-nil octets) ∙ ended)
+
+-- one that stopped answers as the whole capture says
+stopped_so : (tool : Tool) (words : List (List ℕ)) (before after : State) (job : Job) (answer : Answer) (end : SideEnd) → Accepts tool words before.names job → IsStopped job answer before after → Ends tool words before.names end → answer ≡ side_answer end
+stopped_so tool words before after job answer end a h e = sym h.whole_says ∙ ap side_answer (one_end tool words before.names job (h.octets ++ h.rest) end a h.taken.capture e)
 
 refused_once : (tool : Tool) (words : List (List ℕ)) (names : Names) (name other : List ℕ) (line number : ℕ) (cause reason : AnyCause) → IsConfigRefused tool words name line cause names → IsConfigRefused tool words other number reason names
     → ConfigRefused name line cause ≡ ConfigRefused other number reason
@@ -132,37 +214,43 @@ refused_once tool words names name other line number cause reason a b =
     one_refusal tool a.file names name other line number cause reason a.refused
     (subst (λ (f : List ℕ). GivesNoJob tool f names other number reason) (sym (same_file tool words a.file b.file a.named b.named)) b.refused)
 
+-- a run that stopped at what the capture says
+owed_stopped : (answer : Answer) (tool : Tool) (words : List (List ℕ)) (before after : State) (s t : ℕ) → answer ≢ Done → OfJob tool words before.names (λ job. IsStopped job answer before after) → IsOwed answer tool words before after s t
+owed_stopped answer tool words before after s t not h = record {
+  complete = λ none whole. absurd (not (stopped_so tool words before after h.0 answer side.Ended h.1 h.2 whole));
+  usage = λ none. absurd (none h.1.file h.1.named);
+  refused = λ file line cause k. absurd (not_both tool words before.names file line cause h.0 k h.1);
+  stopped = λ end open_end e. inl (stopped_so tool words before after h.0 answer end h.1 h.2 e);
+}
+
 pub owed : (answer : Answer) (tells : Bool) (tool : Tool) (words : List (List ℕ)) (before after : State) (says_before says_after : ℕ) → Holds answer tool words before after → HasReason answer tells tool words before after says_before says_after
     → IsOwed answer tool words before after says_before says_after
 owed Done tells tool words before after s t h r = record {
   complete = λ none whole. inl refl;
   usage = λ none. absurd (none h.1.file h.1.named);
   refused = λ file line cause k. absurd (not_both tool words before.names file line cause h.0 k h.1);
-  bad = λ k. absurd (bad_or_whole tool words before.names h.0 k.0 h.2.octets h.1 k.1 h.2.capture h.2.whole k.2);
+  stopped = λ end not e. absurd (ended_or_not tool words before after h.0 h.2.octets end h.1 h.2.taken h.2.ended not e);
 }
 owed SayFault tells tool words before after s t h r = record {
   complete = λ none whole. absurd (none.says r);
   usage = λ none. absurd (none h.1.file h.1.named);
   refused = λ file line cause k. absurd (not_both tool words before.names file line cause h.0 k h.1);
-  bad = λ k. absurd (bad_or_whole tool words before.names h.0 k.0 h.2.octets h.1 k.1 h.2.capture h.2.whole k.2);
+  stopped = λ end not e. absurd (ended_or_not tool words before after h.0 h.2.octets end h.1 h.2.taken h.2.ended not e);
 }
 owed FlowFault tells tool words before after s t h r = record {
   complete = λ none whole. absurd (none.reads r.0 r.1);
   usage = λ none. absurd (none h.1.file h.1.named);
   refused = λ file line cause k. absurd (not_both tool words before.names file line cause h.0 k h.1);
-  bad = λ k. inr (inl refl);
+  stopped = λ end not e. inr (inl refl);
 }
-owed (CaptureBad flows place cause) tells tool words before after s t h r = record {
-  complete = λ none whole. absurd (bad_or_whole tool words before.names whole.0 h.3.0 whole.2.0 whole.1 h.3.1 whole.2.1 whole.2.2 (h.3.2.octets, h.3.2.capture, h.3.2.bad));
-  usage = λ none. absurd (none h.3.1.file h.3.1.named);
-  refused = λ file line c k. absurd (not_both tool words before.names file line c h.3.0 k h.3.1);
-  bad = λ k. inl (λ i. CaptureBad (h.0 i) (h.1 i) (h.2 i));
-}
+owed (CaptureTorn flows place) tells tool words before after s t h r = owed_stopped (CaptureTorn flows place) tool words before after s t (λ e. cc e) h
+owed (CaptureBad flows place cause) tells tool words before after s t h r = owed_stopped (CaptureBad flows place cause) tool words before after s t (λ e. cc e) h
+owed (TooMany which) tells tool words before after s t h r = owed_stopped (TooMany which) tool words before after s t (λ e. cc e) h
 owed (WriteFault name) tells tool words before after s t h r = record {
   complete = λ none whole. absurd (none.writes name r);
   usage = λ none. absurd (none h.1.file h.1.named);
   refused = λ file line cause k. absurd (not_both tool words before.names file line cause h.0 k h.1);
-  bad = λ k. absurd (bad_or_whole tool words before.names h.0 k.0 h.2.octets h.1 k.1 h.2.capture h.2.whole k.2);
+  stopped = λ end not e. absurd (ended_or_not tool words before after h.0 h.2.octets end h.1 h.2.taken h.2.ended not e);
 }
 owed (OpenFault name) tells tool words before after s t h r = record {
   complete = λ none whole. absurd (elim r [ inl o ↦ none.opens name o | inr n ↦ none.reads name n.1 ]);
@@ -171,25 +259,25 @@ owed (OpenFault name) tells tool words before after s t h r = record {
     | inl n ↦ inr (inl (name, n.0, refl))
     | inr j ↦ absurd (not_both tool words before.names file line cause j.0 k j.1)
   ];
-  bad = λ k. inr (inr (inl (name, refl)));
+  stopped = λ end not e. inr (inr (inl (name, refl)));
 }
 owed (ConfigRefused file line cause) tells tool words before after s t h r = record {
   complete = λ none whole. absurd (not_both tool words before.names file line cause whole.0 h.0 whole.1);
   usage = λ none. absurd (none h.0.file h.0.named);
   refused = λ f l c k. inl (refused_once tool words before.names file f line l cause c h.0 k);
-  bad = λ k. absurd (not_both tool words before.names file line cause k.0 h.0 k.1);
+  stopped = λ end not e. absurd (not_both tool words before.names file line cause e.0 h.0 e.1);
 }
 owed Usage tells tool words before after s t h r = record {
   complete = λ none whole. absurd (h.0 whole.1.file whole.1.named);
   usage = λ none. inl refl;
   refused = λ file line cause k. absurd (h.0 k.file k.named);
-  bad = λ k. absurd (h.0 k.1.file k.1.named);
+  stopped = λ end not e. absurd (h.0 e.1.file e.1.named);
 }
 owed NoMemory tells tool words before after s t h r = record {
   complete = λ none whole. inr refl;
   usage = λ none. inr refl;
   refused = λ file line cause k. inr (inr refl);
-  bad = λ k. inr (inr (inr refl));
+  stopped = λ end not e. inr (inr (inr refl));
 }
 
 -- ---- what holds of an answer holds after its line was said
@@ -208,7 +296,9 @@ run_reason Usage tells tool words before after s t h = h
 run_reason (ConfigRefused file line cause) tells tool words before after s t h = h
 run_reason (OpenFault name) tells tool words before after s t h = h
 run_reason FlowFault tells tool words before after s t h = h
+run_reason (CaptureTorn flows place) tells tool words before after s t h = h
 run_reason (CaptureBad flows place cause) tells tool words before after s t h = h
+run_reason (TooMany which) tells tool words before after s t h = h
 run_reason (WriteFault name) tells tool words before after s t h = h
 run_reason SayFault tells tool words before after s t h = absurd h
 run_reason NoMemory tells tool words before after s t h = h

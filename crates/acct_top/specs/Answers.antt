@@ -1,17 +1,25 @@
 -- What holds after each answer, and why it comes.
-use Rattle.std.specs.Prelude.{◌≡◌, ◌≢◌, ◌⊎◌, ⊤, ℕ, Bool, true, IsTrue, List, ◌++◌, Some, Ok}
+use Rattle.std.specs.Prelude.{◌≡◌, ◌≤◌, ◌⊎◌, ⊤, ℕ, Bool, true, IsTrue, List, [], ◌++◌, All, length, Ok}
 use Rattle.outside_io.specs.Causes.{Rose}
-use Rattle.outside_io.specs.Names.{Names, Puts, old_octets}
+use Rattle.outside_io.specs.Names.{Names}
+use Rattle.outside_io.specs.declared.ends.SideEnd.{SideEnd}
+use Rattle.outside_io.specs.declared.ends.SideEnd.TheVariants as side
+use Rattle.outside_io.specs.declared.ends.Which.TheVariants.{Octets}
+use Rattle.outside_io.specs.declared.input_fault.InputFault.TheVariants as fault
 use Rattle.acct_top.specs.declared.answer.AnyCause.{AnyCause}
-use Rattle.acct_top.specs.declared.answer.BadCause.TheVariants.{Magic}
+use Rattle.acct_top.specs.declared.answer.BadCause.TheVariants.{Magic, Kind, Length}
 use Rattle.acct_top.specs.declared.answer.Answer.{Answer}
-use Rattle.acct_top.specs.declared.answer.Answer.TheVariants.{Done, Usage, ConfigRefused, OpenFault, FlowFault, CaptureBad, WriteFault, SayFault, NoMemory}
-use Rattle.acct_top.specs.declared.job.Job.{Job}
-use Rattle.acct_top.specs.Conservation.{IsAccounted, IsAccountedButFor, IsWholeCapture, flows_of}
+use Rattle.acct_top.specs.declared.answer.Answer.TheVariants.{Done, Usage, ConfigRefused, OpenFault, FlowFault, CaptureTorn, CaptureBad, WriteFault, SayFault, TooMany, NoMemory}
+use Rattle.acct_top.specs.Conservation.{AreBegun, HoldsOutput, IsAccounted, IsAccountedButFor, IsNoOutput, IsTaken, flow_end, flows_of, next_output}
+use Rattle.acct_top.specs.Job.{capture_of}
 use Rattle.acct_top.specs.Reading.{GivesNoJob, IsJob, IsReadFor}
 use Rattle.acct_top.specs.State.{State}
-use Rattle.config_keys.specs.ConfigViews.{plugin_says}
+use Rattle.collect_core.specs.declared.job.Job.{Job}
+use Rattle.collect_core.specs.Due.{records_of}
+use Rattle.collect_core.specs.Most.{FULL}
+use Rattle.config_keys.specs.ConfigViews.{says}
 use Rattle.config_keys.specs.Usage.{IsAnswer}
+use Rattle.config_keys.specs.declared.plugin.PluginConfig.{PluginConfig}
 use Rattle.config_keys.specs.declared.tool.Tool.{Tool}
 use Rattle.config_keys.specs.declared.words.Words.TheVariants as asked
 
@@ -31,14 +39,9 @@ OfJob tool words names P = (job : Job) × Accepts tool words names job × P job
 
 -- the jobs ask for the same
 pub record IsSameJob (some other : Job) : Type 0 where
-  pub tool : some.tool ≡ other.tool
-  pub plugin : plugin_says some.plugin ≡ plugin_says other.plugin
-  pub as_from : some.as_from ≡ other.as_from
-  pub renormalise : some.renormalise ≡ other.renormalise
+  pub config : says some.config ≡ says other.config
   pub tags : some.tags ≡ other.tags
   pub samplings : some.samplings ≡ other.samplings
-  pub capture : some.capture ≡ other.capture
-  pub audit : some.audit ≡ other.audit
 
 -- words and files have one job: whoever reads them finds the same
 abbrev pub HaveOneJob : Type 0
@@ -47,48 +50,75 @@ HaveOneJob = (tool : Tool) (words : List (List ℕ)) (names : Names) (some other
 
 -- ---- what holds of a job
 
+-- how a run answers whose flow side ended so
+abbrev pub side_answer : SideEnd → Answer
+side_answer side.Ended = Done
+side_answer (side.Fault fault.ReadFault) = FlowFault
+side_answer (side.Fault fault.BadMagic) = CaptureBad true 0 Magic
+side_answer (side.Fault (fault.BadKind place)) = CaptureBad true place Kind
+side_answer (side.Fault (fault.Torn place)) = CaptureTorn true place
+side_answer (side.Fault (fault.TooLong place)) = CaptureBad true place Length
+side_answer (side.Fault fault.TooMany) = TooMany Octets
+side_answer (side.Fault fault.NoMemory) = NoMemory
+side_answer (side.TooMany which) = TooMany which
+
+-- all of the capture was taken, and it ends, and all outputs are whole
 pub record IsDone (job : Job) (before after : State) : Type 0 where
   pub octets : List ℕ
-  pub capture : before.names job.capture ≡ Some octets
-  pub whole : IsWholeCapture octets
-  pub taken : after.taken job.capture ≡ Some octets
-  pub accounted : IsAccounted job (flows_of octets) before.names after.names
+  pub taken : IsTaken job before after octets []
+  pub ended : flow_end job octets ≡ side.Ended
+  pub accounted : IsAccounted job (flows_of job octets) before.names after.names
 
 -- a read failed behind these octets, and they are accounted for
 pub record IsCutShort (job : Job) (before after : State) : Type 0 where
   pub octets : List ℕ
   pub rest : List ℕ
-  pub capture : before.names job.capture ≡ Some (octets ++ rest)
-  pub taken : after.taken job.capture ≡ Some octets
-  pub failed : Rose (before.reads job.capture) (after.reads job.capture)
-  pub accounted : IsAccountedButFor job (flows_of octets) before after
+  pub taken : IsTaken job before after octets rest
+  pub failed : Rose (before.reads (capture_of job)) (after.reads (capture_of job))
+  pub few : length (records_of job (flows_of job octets)) ≤ FULL.records
+  pub accounted : IsAccountedButFor job (flows_of job octets) before after
 
--- the capture is none, and the datagrams before its fault are accounted for
-pub record IsBadCapture (job : Job) (before after : State) : Type 0 where
+-- The octets that were taken of the capture say that the run ends so, whatever follows them there, and the datagrams before that are
+-- accounted for.
+pub record IsStopped (job : Job) (answer : Answer) (before after : State) : Type 0 where
   pub octets : List ℕ
-  pub capture : before.names job.capture ≡ Some octets
-  pub bad : IsWholeCapture octets → ⊥
-  pub accounted : IsAccountedButFor job (flows_of octets) before after
+  pub rest : List ℕ
+  pub taken : IsTaken job before after octets rest
+  pub says : side_answer (flow_end job octets) ≡ answer
+  pub whole_says : side_answer (flow_end job (octets ++ rest)) ≡ answer
+  pub accounted : IsAccountedButFor job (flows_of job octets) before after
 
--- writing or closing this name failed, and none before it in order
+-- all of the capture was taken, and it ends; writing or closing this name failed, and all outputs before it, in order, are whole
 pub record IsUnwritten (job : Job) (name : List ℕ) (before after : State) : Type 0 where
   pub octets : List ℕ
-  pub capture : before.names job.capture ≡ Some octets
-  pub whole : IsWholeCapture octets
-  pub which : (name ≡ job.plugin.file) ⊎ (name ≡ job.audit)
+  pub taken : IsTaken job before after octets []
+  pub ended : flow_end job octets ≡ side.Ended
+  pub first : List PluginConfig
+  pub others : List PluginConfig
+  pub splits : job.config.plugins ≡ first ++ others
+  pub which : name ≡ next_output job others
+  pub whole : All (HoldsOutput job (flows_of job octets) before.names after.names) first
   pub failed : Rose (before.writes name) (after.writes name)
-  pub accounted : IsAccountedButFor job (flows_of octets) before after
+  pub accounted : IsAccountedButFor job (flows_of job octets) before after
 
--- This name couldn't be opened. Outputs opened before it have what they had.
+-- This output couldn't be opened, and those before it, in order, have what they begin with.
+pub record IsUnopenedOutput (job : Job) (name : List ℕ) (before after : Names) : Type 0 where
+  pub first : List PluginConfig
+  pub others : List PluginConfig
+  pub splits : job.config.plugins ≡ first ++ others
+  pub which : name ≡ next_output job others
+  pub begun : AreBegun first before after
+
+-- This name couldn't be opened: the capture, which is opened first, or an output.
 abbrev pub IsUnopened : Job → List ℕ → Names → Names → Type 0
-IsUnopened job name before after =
-    (((name ≡ job.capture) ⊎ (name ≡ job.plugin.file)) × (after ≡ before))
-    ⊎ ((name ≡ job.audit) × Puts before after job.plugin.file (Some (old_octets before job.plugin.file)))
+IsUnopened job name before after = ((name ≡ capture_of job) × (after ≡ before)) ⊎ IsUnopenedOutput job name before after
 
 abbrev pub HoldsOfJob : Answer → Job → State → State → Type 0
 HoldsOfJob Done job before after = IsDone job before after
 HoldsOfJob FlowFault job before after = IsCutShort job before after
-HoldsOfJob (CaptureBad flows place cause) job before after = (flows ≡ true) × (place ≡ 0) × (cause ≡ Magic) × IsBadCapture job before after
+HoldsOfJob (CaptureTorn flows place) job before after = IsStopped job (CaptureTorn flows place) before after
+HoldsOfJob (CaptureBad flows place cause) job before after = IsStopped job (CaptureBad flows place cause) before after
+HoldsOfJob (TooMany which) job before after = IsStopped job (TooMany which) before after
 HoldsOfJob (WriteFault name) job before after = IsUnwritten job name before after
 HoldsOfJob (OpenFault name) job before after = IsUnopened job name before.names after.names
 HoldsOfJob NoMemory job before after = ⊤
@@ -113,7 +143,9 @@ abbrev pub Holds : Answer → Tool → List (List ℕ) → State → State → T
 Holds Done tool words before after = OfJob tool words before.names (λ job. IsDone job before after)
 Holds SayFault tool words before after = OfJob tool words before.names (λ job. IsDone job before after)
 Holds FlowFault tool words before after = OfJob tool words before.names (λ job. IsCutShort job before after)
-Holds (CaptureBad flows place cause) tool words before after = (flows ≡ true) × (place ≡ 0) × (cause ≡ Magic) × OfJob tool words before.names (λ job. IsBadCapture job before after)
+Holds (CaptureTorn flows place) tool words before after = OfJob tool words before.names (λ job. IsStopped job (CaptureTorn flows place) before after)
+Holds (CaptureBad flows place cause) tool words before after = OfJob tool words before.names (λ job. IsStopped job (CaptureBad flows place cause) before after)
+Holds (TooMany which) tool words before after = OfJob tool words before.names (λ job. IsStopped job (TooMany which) before after)
 Holds (WriteFault name) tool words before after = OfJob tool words before.names (λ job. IsUnwritten job name before after)
 Holds (OpenFault name) tool words before after =
     (IsRead tool words before.names name × (after.names ≡ before.names)) ⊎ OfJob tool words before.names (λ job. IsUnopened job name before.names after.names)
@@ -124,7 +156,7 @@ Holds NoMemory tool words before after = ⊤
 -- A name that is no output of the words' configuration has what it had.
 abbrev pub LeavesOthers : Tool → List (List ℕ) → Names → Names → Type 0
 LeavesOthers tool words before after =
-    (name : List ℕ) → ((job : Job) → Accepts tool words before job → (name ≢ job.plugin.file) × (name ≢ job.audit)) → after name ≡ before name
+    (name : List ℕ) → ((job : Job) → Accepts tool words before job → IsNoOutput job name) → after name ≡ before name
 
 -- ---- why an answer comes
 
@@ -148,7 +180,9 @@ abbrev pub JobReason : Answer → State → State → Type 0
 JobReason Done before after = ⊤
 JobReason (OpenFault name) before after = Rose (before.opens name) (after.opens name)
 JobReason FlowFault before after = (name : List ℕ) × Rose (before.reads name) (after.reads name)
+JobReason (CaptureTorn flows place) before after = ⊤
 JobReason (CaptureBad flows place cause) before after = ⊤
+JobReason (TooMany which) before after = ⊤
 JobReason (WriteFault name) before after = Rose (before.writes name) (after.writes name)
 JobReason NoMemory before after = ⊤
 JobReason answer before after = ⊥

@@ -1,48 +1,95 @@
 -- The conservation theorem: what a run has written of a list of datagrams.
-use Rattle.std.specs.Prelude.{◌≡◌, ◌≢◌, ◌<◌, ◌+◌, ◌^◌, ℕ, List, [], ◌++◌, length, take, Option, Some}
+use Rattle.std.specs.Prelude.{◌≡◌, ◌≢◌, ℕ, List, [], ◌∷◌, ◌++◌, All, length, Option, Some, nat_lt, if◌then◌else◌}
 use Rattle.acct_types.specs.declared.cell.Cell.{Cell}
 use Rattle.acct_types.specs.declared.datagram.Datagram.{Datagram}
-use Rattle.acct_types.specs.declared.flow.Counts.{Counts}
-use Rattle.capture_file.specs.declared.flows.CaptureEnd.TheVariants.{Ended}
+use Rattle.acct_types.specs.declared.item.Purge.{Purge}
+use Rattle.capture_file.specs.declared.flows.CaptureEnd.{CaptureEnd}
+use Rattle.capture_file.specs.declared.flows.CaptureEnd.TheVariants as capture
 use Rattle.capture_file.specs.Capture.{datagrams_of, end_of}
+use Rattle.collect_core.specs.declared.job.Job.{Job}
+use Rattle.collect_core.specs.Audit.{audit_text}
+use Rattle.collect_core.specs.Due.{due, records_of}
+use Rattle.collect_core.specs.Ends.{counted, slices_in}
+use Rattle.collect_core.specs.Flows.{flows_in}
+use Rattle.collect_core.specs.Most.{FULL}
+use Rattle.config_keys.specs.declared.plugin.PluginConfig.{PluginConfig}
+use Rattle.config_keys.specs.declared.value.PluginKind.{PluginKind}
+use Rattle.config_keys.specs.declared.value.PluginKind.TheVariants.{Print, Memory}
 use Rattle.outside_io.specs.Causes.{Rose}
-use Rattle.outside_io.specs.Names.{Names, old_octets}
-use Rattle.acct_top.specs.declared.job.Job.{Job}
-use Rattle.acct_top.specs.Audit.{audit_text}
-use Rattle.acct_top.specs.Due.{due}
-use Rattle.acct_top.specs.Output.{rows_text}
+use Rattle.outside_io.specs.Names.{Names, begun}
+use Rattle.outside_io.specs.declared.ends.SideEnd.{SideEnd}
+use Rattle.outside_io.specs.declared.ends.SideEnd.TheVariants as side
+use Rattle.outside_io.specs.declared.ends.Which.TheVariants as which
+use Rattle.outside_io.specs.declared.fault.Begin.{Begin}
+use Rattle.outside_io.specs.declared.fault.Begin.TheVariants.{Append, Anew}
+use Rattle.outside_io.specs.declared.input_fault.InputFault.TheVariants as fault
+use Rattle.plugin_cache.specs.Slices.{IsPurgeOf, OneForEach, rows_in}
+use Rattle.plugin_cache.specs.Sums.{sums_of}
+use Rattle.plugin_work.specs.Output.{texts_of}
+use Rattle.acct_top.specs.Job.{capture_of}
 use Rattle.acct_top.specs.State.{State}
-use Rattle.plugin_cache.specs.Sums.{IsPurge, sums_of}
 
--- the most octets that the events of a capture may have, and the most octets that are read of one
-abbrev pub MOST_EVENTS : ℕ
-MOST_EVENTS = 2 ^ 32
+-- ---- the capture
 
-abbrev pub MOST_CAPTURE : ℕ
-MOST_CAPTURE = 2 ^ 32 + 9
+-- the datagrams that a capture's octets spell, up to the first fault, within the limits of every run
+abbrev pub flows_of : Job → List ℕ → List Datagram
+flows_of job octets = flows_in job FULL (datagrams_of FULL.octets octets)
 
--- the octets are a whole capture, within the limit
-abbrev pub IsWholeCapture : List ℕ → Type 0
-IsWholeCapture octets = (length octets < MOST_CAPTURE) × (end_of MOST_EVENTS octets ≡ Ended)
+-- how the flow side ends that reads a capture to such an end
+abbrev pub side_end : CaptureEnd → SideEnd
+side_end capture.Ended = side.Ended
+side_end capture.BadMagic = side.Fault fault.BadMagic
+side_end (capture.BadKind place) = side.Fault (fault.BadKind place)
+side_end (capture.Torn place) = side.Fault (fault.Torn place)
+side_end (capture.TooLong place) = side.Fault (fault.TooLong place)
+side_end capture.TooMany = side.TooMany which.Octets
 
--- the datagrams that a capture's octets spell, up to the first fault
-abbrev pub flows_of : List ℕ → List Datagram
-flows_of octets = datagrams_of MOST_EVENTS (take MOST_CAPTURE octets)
+-- How the flow side ends, by the octets of the capture alone: it has too many records, or ends as its events do.
+abbrev pub flow_end : Job → List ℕ → SideEnd
+flow_end job octets =
+    if nat_lt FULL.records (length (records_of job (flows_of job octets))) then side.TooMany which.Records
+    else side_end (end_of FULL.octets octets)
+
+-- These octets were taken of the capture, and these are left.
+pub record IsTaken (job : Job) (before after : State) (octets rest : List ℕ) : Type 0 where
+  pub capture : before.names (capture_of job) ≡ Some (octets ++ rest)
+  pub taken : after.taken (capture_of job) ≡ Some octets
+
+-- ---- the outputs
+
+-- A print plugin appends to its output, and a memory plugin begins it anew.
+abbrev pub begin_of : PluginKind → Begin
+begin_of Print = Append
+begin_of Memory = Anew
+
+-- what the output of a plugin begins with
+abbrev pub start_of : Names → PluginConfig → List ℕ
+start_of names plugin = begun (begin_of plugin.kind) names plugin.file
+
+-- the name is that of no output
+pub record IsNoOutput (job : Job) (name : List ℕ) : Type 0 where
+  pub plugins : All (λ plugin. name ≢ plugin.file) job.config.plugins
+  pub audit : name ≢ job.config.acct_audit_file
 
 -- every name but the outputs has what it had
 abbrev pub KeepsOthers : Job → Names → Names → Type 0
-KeepsOthers job before after = (name : List ℕ) → name ≢ job.plugin.file → name ≢ job.audit → after name ≡ before name
+KeepsOthers job before after = (name : List ℕ) → IsNoOutput job name → after name ≡ before name
+
+-- The output of a plugin, whole.
+pub record HoldsOutput (job : Job) (flows : List Datagram) (before after : Names) (plugin : PluginConfig) : Type 0 where
+  pub purges : List Purge
+  -- the purges are those of the slices of what the plugin is owed
+  pub are : OneForEach IsPurgeOf (slices_in plugin (due job FULL plugin flows)) purges
+  -- the output holds what it began with, and then the texts of the purges
+  pub output : after plugin.file ≡ Some (start_of before plugin ++ texts_of plugin purges)
+  -- over the rows of all purges each key has the sums that it has over the records due
+  pub sums : (key : List Cell) → sums_of (rows_in purges) key ≡ sums_of (counted (due job FULL plugin flows)) key
 
 -- The outputs hold the texts of these datagrams, whole.
 pub record IsAccounted (job : Job) (flows : List Datagram) (before after : Names) : Type 0 where
   -- the audit holds its text alone
-  pub audit : after job.audit ≡ Some (audit_text job flows)
-  pub rows : List (List Cell × Counts)
-  pub purge : IsPurge (due job flows) rows
-  -- the output holds its old octets, and then the text of the purge
-  pub output : after job.plugin.file ≡ Some (old_octets before job.plugin.file ++ rows_text job rows)
-  -- over the rows each key has the sums that it has over the records due
-  pub sums : (key : List Cell) → sums_of rows key ≡ sums_of (due job flows) key
+  pub audit : after job.config.acct_audit_file ≡ Some (audit_text job FULL flows)
+  pub plugins : All (HoldsOutput job flows before after) job.config.plugins
   pub others : KeepsOthers job before after
 
 -- What a name holds of a text, behind a start: all of it, or, where its number of faults rose, perhaps a front.
@@ -53,11 +100,25 @@ pub record HoldsText (risen : Type 0) (start text : List ℕ) (octets : Option (
   pub holds : octets ≡ Some (start ++ front)
   pub whole : (risen → ⊥) → rest ≡ []
 
--- The same, but for the outputs whose number of write faults rose.
+-- The output of a plugin: whole, or, where its number of write faults rose, perhaps a front.
+pub record HoldsOutputButFor (job : Job) (flows : List Datagram) (before after : State) (plugin : PluginConfig) : Type 0 where
+  pub purges : List Purge
+  pub are : OneForEach IsPurgeOf (slices_in plugin (due job FULL plugin flows)) purges
+  pub output : HoldsText (Rose (before.writes plugin.file) (after.writes plugin.file)) (start_of before.names plugin) (texts_of plugin purges) (after.names plugin.file)
+  pub sums : (key : List Cell) → sums_of (rows_in purges) key ≡ sums_of (counted (due job FULL plugin flows)) key
+
+-- The same of all outputs, but for those whose number of write faults rose.
 pub record IsAccountedButFor (job : Job) (flows : List Datagram) (before after : State) : Type 0 where
-  pub audit : HoldsText (Rose (before.writes job.audit) (after.writes job.audit)) [] (audit_text job flows) (after.names job.audit)
-  pub rows : List (List Cell × Counts)
-  pub purge : IsPurge (due job flows) rows
-  pub output : HoldsText (Rose (before.writes job.plugin.file) (after.writes job.plugin.file)) (old_octets before.names job.plugin.file) (rows_text job rows) (after.names job.plugin.file)
-  pub sums : (key : List Cell) → sums_of rows key ≡ sums_of (due job flows) key
+  pub audit : HoldsText (Rose (before.writes job.config.acct_audit_file) (after.writes job.config.acct_audit_file)) [] (audit_text job FULL flows) (after.names job.config.acct_audit_file)
+  pub plugins : All (HoldsOutputButFor job flows before after) job.config.plugins
   pub others : KeepsOthers job before.names after.names
+
+-- The output that comes behind those of the plugins before these, in order: the first of these, or else the audit.
+abbrev pub next_output : Job → List PluginConfig → List ℕ
+next_output job [] = job.config.acct_audit_file
+next_output job (plugin ∷ plugins) = plugin.file
+
+-- The outputs of these plugins have what they begin with, and every other name has what it had.
+pub record AreBegun (plugins : List PluginConfig) (before after : Names) : Type 0 where
+  pub plugins_have : All (λ plugin. after plugin.file ≡ Some (start_of before plugin)) plugins
+  pub others : (name : List ℕ) → All (λ plugin. name ≢ plugin.file) plugins → after name ≡ before name

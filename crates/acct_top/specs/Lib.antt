@@ -1,12 +1,7 @@
-pub mod Account
 pub mod Answers
-pub mod Audit
 pub mod Complete
 pub mod Conservation
-pub mod Counting
-pub mod Due
 pub mod Job
-pub mod Output
 pub mod Reading
 pub mod Run
 pub mod Said

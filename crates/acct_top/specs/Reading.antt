@@ -6,7 +6,7 @@ use Rattle.acct_top.specs.declared.answer.AnyCause.{AnyCause}
 use Rattle.acct_top.specs.declared.answer.AnyCause.TheVariants.{Config, Map, TooLong}
 use Rattle.acct_top.specs.declared.answer.Answer.{Answer}
 use Rattle.acct_top.specs.declared.answer.Answer.TheVariants.{ConfigRefused, OpenFault, NoMemory}
-use Rattle.acct_top.specs.declared.job.Job.{Job}
+use Rattle.collect_core.specs.declared.job.Job.{Job}
 use Rattle.acct_top.specs.Job.{IsJobOf, built_config}
 use Rattle.acct_top.specs.State.{State}
 use Rattle.config_keys.specs.Reading.{ConfigSays}

@@ -7,10 +7,14 @@ use Rattle.config_keys.specs.Causes as config
 use Rattle.pretag_map.specs.Causes as map
 use Rattle.config_keys.specs.declared.tool.Tool.{Tool}
 use Rattle.config_keys.specs.declared.tool.Tool.TheVariants.{Nfacctd, Sfacctd, Pmbgpd}
+use Rattle.outside_io.specs.declared.ends.Which.{Which}
+use Rattle.outside_io.specs.declared.ends.Which.TheVariants.{Records, Messages, Octets}
 use Rattle.acct_top.specs.declared.answer.AnyCause.{AnyCause}
 use Rattle.acct_top.specs.declared.answer.AnyCause.TheVariants.{Config, Map, TooLong}
+use Rattle.acct_top.specs.declared.answer.BadCause.{BadCause}
+use Rattle.acct_top.specs.declared.answer.BadCause.TheVariants.{Magic, Kind, Length}
 use Rattle.acct_top.specs.declared.answer.Answer.{Answer}
-use Rattle.acct_top.specs.declared.answer.Answer.TheVariants.{Done, Usage, ConfigRefused, OpenFault, FlowFault, CaptureBad, WriteFault, SayFault, NoMemory}
+use Rattle.acct_top.specs.declared.answer.Answer.TheVariants.{Done, Usage, ConfigRefused, OpenFault, FlowFault, CaptureTorn, CaptureBad, WriteFault, SayFault, TooMany, NoMemory}
 
 abbrev pub tool_name : Tool → List ℕ
 tool_name Nfacctd = codes "nfacctd"
@@ -30,6 +34,16 @@ cause_text TooLong = codes "too-long"
 abbrev pub side_text : Bool → List ℕ
 side_text flows = if flows then codes "flow" else codes "route"
 
+abbrev pub bad_text : BadCause → List ℕ
+bad_text Magic = codes "magic"
+bad_text Kind = codes "kind"
+bad_text Length = codes "length"
+
+abbrev pub which_text : Which → List ℕ
+which_text Records = codes "records"
+which_text Messages = codes "messages"
+which_text Octets = codes "octets"
+
 -- what is said behind the program's name
 abbrev pub answer_text : Answer → List ℕ
 answer_text Done = codes "done"
@@ -37,9 +51,11 @@ answer_text Usage = []
 answer_text (ConfigRefused file line cause) = file ++ codes ":" ++ decimal line ++ codes ": " ++ cause_text cause
 answer_text (OpenFault name) = codes "cannot open " ++ name
 answer_text FlowFault = codes "flow input failed"
-answer_text (CaptureBad flows place cause) = side_text flows ++ codes " capture bad at " ++ decimal place ++ codes ": magic"
+answer_text (CaptureTorn flows place) = side_text flows ++ codes " capture torn at " ++ decimal place
+answer_text (CaptureBad flows place cause) = side_text flows ++ codes " capture bad at " ++ decimal place ++ codes ": " ++ bad_text cause
 answer_text (WriteFault name) = codes "cannot write " ++ name
 answer_text SayFault = codes "done"
+answer_text (TooMany which) = codes "too many " ++ which_text which
 answer_text NoMemory = codes "no memory"
 
 -- the line of an answer; where it couldn't be said that all is done, that of Done

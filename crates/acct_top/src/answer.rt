@@ -1,8 +1,10 @@
 ghost use Rattle.std.specs.Prelude.{◌≡◌};
+ghost use Rattle.acct_top.specs.Answers.{side_answer};
 ghost use Rattle.acct_top.specs.Status.{status_of};
 
 use acct_types::Text;
 use config_keys::ConfigCause;
+use outside_io::{InputFault, SideEnd, Which};
 use pretag_map::MapCause;
 
 /// Why a file is refused.
@@ -19,7 +21,12 @@ pub enum AnyCause {
 /// What is wrong with a capture.
 #[derive(Clone, Copy, Debug, PartialEq, Eq)]
 pub enum BadCause {
+    /// It doesn't begin with the magic.
     Magic,
+    /// An event is of no kind that it may have.
+    Kind,
+    /// An event has more octets than it may have.
+    Length,
 }
 
 /// How a run ended.
@@ -41,7 +48,12 @@ pub enum Answer {
     },
     /// Reading the flow capture failed.
     FlowFault,
-    /// The capture's octets are no whole capture.
+    /// A capture, that of flows or that of routes, ends within the event at this place.
+    CaptureTorn {
+        flows: bool,
+        place: u64,
+    },
+    /// A capture isn't well formed at this place.
     CaptureBad {
         flows: bool,
         place: u64,
@@ -53,6 +65,10 @@ pub enum Answer {
     },
     /// All else was done, and the line couldn't be said.
     SayFault,
+    /// One more would have passed a limit. All before it is accounted for.
+    TooMany {
+        which: Which,
+    },
     NoMemory,
 }
 
@@ -70,12 +86,43 @@ pub fn status(answer: &Answer) -> u8
         } => 2,
         Answer::OpenFault { name: _ } => 3,
         Answer::FlowFault => 4,
-        Answer::CaptureBad {
+        Answer::CaptureTorn { flows: _, place: _ }
+        | Answer::CaptureBad {
             flows: _,
             place: _,
             cause: _,
         } => 5,
         Answer::WriteFault { name: _ } | Answer::SayFault => 6,
+        Answer::TooMany { which: _ } => 7,
         Answer::NoMemory => 8,
+    }
+}
+
+/// How a run answers whose flow side ended so.
+pub fn side_answer(end: SideEnd) -> Answer
+    ensures { result ≡ side_answer end }
+{
+    let fault = match end {
+        SideEnd::Ended => return Answer::Done,
+        SideEnd::TooMany(which) => return Answer::TooMany { which },
+        SideEnd::Fault(fault) => fault,
+    };
+    let (place, cause) = match fault {
+        InputFault::ReadFault => return Answer::FlowFault,
+        InputFault::NoMemory => return Answer::NoMemory,
+        InputFault::TooMany => {
+            return Answer::TooMany {
+                which: Which::Octets,
+            };
+        }
+        InputFault::Torn { place } => return Answer::CaptureTorn { flows: true, place },
+        InputFault::BadMagic => (0, BadCause::Magic),
+        InputFault::BadKind { place } => (place, BadCause::Kind),
+        InputFault::TooLong { place } => (place, BadCause::Length),
+    };
+    Answer::CaptureBad {
+        flows: true,
+        place,
+        cause,
     }
 }

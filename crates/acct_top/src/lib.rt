@@ -2,9 +2,9 @@
 #![tactic(auto)]
 
 mod answer;
-mod count;
+mod close;
 mod in_memory;
-mod job;
+mod open;
 mod read_job;
 mod read_map;
 mod read_text;
@@ -14,12 +14,17 @@ mod top;
 
 pub use answer::{Answer, AnyCause, BadCause, status};
 pub use in_memory::account_in_memory;
-pub use job::Job;
 pub use top::{account_alone, one_job};
 
+#[cfg(test)]
+mod capture_tests;
 #[cfg(test)]
 mod map_tests;
 #[cfg(test)]
 mod protocol_tests;
+#[cfg(test)]
+mod several_tests;
+#[cfg(test)]
+mod test_runs;
 #[cfg(test)]
 mod tests;

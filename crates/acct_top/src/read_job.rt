@@ -1,70 +1,21 @@
 //! The job that a configuration gives.
 
-ghost use Rattle.std.specs.Prelude.{◌≡◌, ◌≤◌, false, length, map, None, IfOk, IfSome, IfNone};
-ghost use Rattle.config_keys.specs.ConfigViews.{IsReading, plugin_says, says};
+ghost use Rattle.std.specs.Prelude.{◌≡◌, ◌≤◌, false, length, None, IfOk, IfSome, IfNone};
+ghost use Rattle.config_keys.specs.ConfigViews.{IsReading, says};
 ghost use Rattle.config_keys.specs.Reading.{shares_name};
-ghost use Rattle.acct_top.specs.Job.{IsJobOf, as_of, built_config, collects, is_one_print, is_unbuilt, prints, renormalises};
+ghost use Rattle.acct_top.specs.Job.{IsJobOf, built_config, is_unbuilt};
 
-use crate::Job;
-use acct_types::{AsFrom, Text};
-use config_keys::{
-    Config, ConfigCause, ConfigFault, PluginConfig, PluginKind, Tool, has_output, read_config,
-};
+use acct_types::Text;
+use collect_core::{Job, collects};
+use config_keys::{Config, ConfigCause, ConfigFault, Tool, has_output, read_config};
 use pretag_map::{SamplingMap, TagMap};
 use std::alloc::Global;
-
-fn collects(tool: Tool) -> bool
-    ensures { result ≡ collects tool }
-{
-    match tool {
-        Tool::Nfacctd => true,
-        Tool::Sfacctd => true,
-        Tool::Pmbgpd => false,
-    }
-}
-
-fn as_of(config: &Config) -> AsFrom
-    ensures { result ≡ as_of (says config.now) }
-{
-    match config.tool {
-        Tool::Sfacctd => config.sfacctd_as,
-        Tool::Nfacctd | Tool::Pmbgpd => config.nfacctd_as,
-    }
-}
-
-fn renormalises(config: &Config) -> bool
-    ensures { result ≡ renormalises (says config.now) }
-{
-    match config.tool {
-        Tool::Sfacctd => config.sfacctd_renormalize,
-        Tool::Nfacctd | Tool::Pmbgpd => config.nfacctd_renormalize,
-    }
-}
-
-fn prints(kind: PluginKind) -> bool
-    ensures { result ≡ prints kind }
-{
-    match kind {
-        PluginKind::Print => true,
-        PluginKind::Memory => false,
-    }
-}
-
-fn is_one_print(plugins: &[PluginConfig]) -> bool
-    ensures { result ≡ is_one_print (map plugin_says plugins.now) }
-{
-    match plugins {
-        [plugin] => prints(plugin.kind),
-        _ => false,
-    }
-}
 
 // Whether a configuration asks for something that isn't built yet.
 fn is_unbuilt(config: &Config) -> bool
     ensures { result ≡ is_unbuilt (says config.now) }
 {
     !collects(config.tool)
-        || !is_one_print(config.plugins.as_slice())
         || config.bgp_daemon
         || config.bmp_daemon
         || config.bgp_agent_map.is_some()
@@ -107,24 +58,12 @@ pub fn job_of(config: Config, tags: TagMap, samplings: SamplingMap) -> Option<Jo
     ensures samplings { IfSome result (λ job. job.samplings ≡ samplings) }
     ensures none { IfNone result (config.acct_flow_capture ≡ None) }
 {
-    let tool = config.tool;
-    let as_from = as_of(&config);
-    let renormalise = renormalises(&config);
-    let mut plugins = config.plugins;
-    let capture = config.acct_flow_capture;
-    let audit = config.acct_audit_file;
-    let Some(capture) = capture else {
+    if config.acct_flow_capture.is_none() {
         return None;
-    };
-    let plugin = plugins.pop().unwrap();
+    }
     Some(Job {
-        tool,
-        plugin,
-        as_from,
-        renormalise,
+        config,
         tags,
         samplings,
-        capture,
-        audit,
     })
 }

@@ -1,12 +1,12 @@
 ghost use Rattle.std.specs.Prelude.{◌≡◌, ◌++◌, ◌⊎◌, IfOk, OnOk, decimal};
 ghost use Rattle.outside_io.specs.Causes.{Rose};
-ghost use Rattle.acct_top.specs.Say.{answer_line, answer_text, cause_text, side_text, tool_name, usage_line, SaysAnswer};
+ghost use Rattle.acct_top.specs.Say.{answer_line, answer_text, bad_text, cause_text, side_text, tool_name, usage_line, which_text, SaysAnswer};
 ghost use Rattle.acct_top.specs.Said.{IsSaidAs};
 
-use crate::{Answer, AnyCause};
+use crate::{Answer, AnyCause, BadCause};
 use acct_types::{NoMemory, Octets, Text, append_decimal};
 use config_keys::Tool;
-use outside_io::{IoFault, Sink, write_all};
+use outside_io::{IoFault, Sink, Which, write_all};
 use std::alloc::Global;
 
 fn tool_name(tool: Tool) -> &'static [u8]
@@ -40,6 +40,32 @@ fn cause_text<'a>(cause: AnyCause) -> &'a [u8]
     }
 }
 
+fn side_text<'a>(flows: bool) -> &'a [u8]
+    ensures { result.now ≡ side_text flows }
+{
+    if flows { b"flow" } else { b"route" }
+}
+
+fn bad_text<'a>(cause: BadCause) -> &'a [u8]
+    ensures { result.now ≡ bad_text cause }
+{
+    match cause {
+        BadCause::Magic => b"magic",
+        BadCause::Kind => b"kind",
+        BadCause::Length => b"length",
+    }
+}
+
+fn which_text<'a>(which: Which) -> &'a [u8]
+    ensures { result.now ≡ which_text which }
+{
+    match which {
+        Which::Records => b"records",
+        Which::Messages => b"messages",
+        Which::Octets => b"octets",
+    }
+}
+
 fn push_name(out: &mut Octets, head: &[u8], name: &Text) -> Result<(), NoMemory>
     ensures { OnOk result (out.new ≡ out.old ++ (head.now ++ name.now)) }
 {
@@ -63,17 +89,27 @@ fn push_answer(out: &mut Octets, answer: &Answer) -> Result<(), NoMemory>
         }
         Answer::OpenFault { name } => push_name(out, b"cannot open ", name),
         Answer::FlowFault => out.extend(b"flow input failed"),
+        Answer::CaptureTorn { flows, place } => {
+            out.extend(side_text(*flows))?;
+            out.extend(b" capture torn at ")?;
+            append_decimal(*place, out)
+        }
         Answer::CaptureBad {
             flows,
             place,
-            cause: _,
+            cause,
         } => {
-            out.extend(if *flows { b"flow".as_slice() } else { b"route" })?;
+            out.extend(side_text(*flows))?;
             out.extend(b" capture bad at ")?;
             append_decimal(*place, out)?;
-            out.extend(b": magic")
+            out.extend(b": ")?;
+            out.extend(bad_text(*cause))
         }
         Answer::WriteFault { name } => push_name(out, b"cannot write ", name),
+        Answer::TooMany { which } => {
+            out.extend(b"too many ")?;
+            out.extend(which_text(*which))
+        }
         Answer::NoMemory => out.extend(b"no memory"),
     }
 }

@@ -1,4 +1,4 @@
-use crate::{Answer, AnyCause, account_alone, account_in_memory, status};
+use crate::{Answer, AnyCause, BadCause, account_alone, account_in_memory, status};
 use acct_types::{List, NoMemory, Octets, Text};
 use config_keys::{ConfigCause, Tool};
 use outside_io::{MemoryPlace, MemorySink};
@@ -78,6 +78,8 @@ const DONE: &[u8] = b"nfacctd: done\n";
 
 const BAD: &[u8] = b"nfacctd: flow capture bad at 0: magic\n";
 
+const TORN_AT_8: &[u8] = b"nfacctd: flow capture torn at 8\n";
+
 // Octets, so many times.
 type Part = (usize, &'static [u8]);
 
@@ -115,7 +117,8 @@ enum Kind {
     TooLong,
     Unopened(&'static [u8]),
     FlowFault,
-    Bad,
+    Torn(u64),
+    Bad(u64, BadCause),
     Unwritten(&'static [u8]),
     SayFault,
 }
@@ -252,14 +255,15 @@ fn is_answer(answer: &Answer, wanted: Kind) -> bool {
         }
         (Answer::OpenFault { name }, Kind::Unopened(wanted)) => name.as_slice() == wanted,
         (Answer::FlowFault, Kind::FlowFault) => true,
+        (Answer::CaptureTorn { flows, place }, Kind::Torn(wanted)) => *flows && *place == wanted,
         (
             Answer::CaptureBad {
                 flows,
                 place,
-                cause: _,
+                cause,
             },
-            Kind::Bad,
-        ) => *flows && *place == 0,
+            Kind::Bad(wanted, why),
+        ) => *flows && *place == wanted && *cause == why,
         (Answer::WriteFault { name }, Kind::Unwritten(wanted)) => name.as_slice() == wanted,
         (Answer::SayFault, Kind::SayFault) => true,
         _ => false,
@@ -758,22 +762,25 @@ fn what_is_not_built_yet_is_refused_at_no_line(rt: HostRuntime) -> Result<(), Fa
             NOTHING_BUILT,
             NOT_IN_PROFILE,
         ),
+        // With other plugins likewise.
         (
             &[(
                 1,
-                b"plugins: print[p], print[q]\nprint_output_file[p]: p.csv\nprint_output_file[q]: q.csv\n\
-print_output_file_append: true\nacct_flow_capture: flows.cap\n",
+                b"plugins: print[p], memory\nprint_output_file[p]: p.csv\nacct_memory_file: m.txt\n\
+print_output_file_append: true\nacct_flow_capture: flows.cap\nbgp_agent_map: agents.map\n",
             )],
             NOTHING_BUILT,
             NOT_IN_PROFILE,
         ),
+        // Plugins have outputs of their own.
         (
             &[(
                 1,
-                b"plugins: memory\nacct_memory_file: p.csv\nacct_flow_capture: flows.cap\n",
+                b"plugins: print[p], memory\nprint_output_file[p]: p.csv\nacct_memory_file: p.csv\n\
+print_output_file_append: true\nacct_flow_capture: flows.cap\n",
             )],
-            NOTHING_BUILT,
-            NOT_IN_PROFILE,
+            SHARED,
+            SAME_NAME,
         ),
         // What isn't built goes before the configuration's own name and before a capture that is missing.
         (
@@ -903,10 +910,10 @@ print_output: csv\n",
 
 #[test]
 fn inputs_that_are_missing_torn_or_lost(rt: HostRuntime) -> Result<(), Fail> {
-    let bad = After {
-        answer: Kind::Bad,
+    let torn = After {
+        answer: Kind::Torn(8),
         status: 5,
-        line: BAD,
+        line: TORN_AT_8,
         output: Some(b""),
         audit: Some(NO_DATAGRAM),
     };
@@ -949,7 +956,7 @@ fn inputs_that_are_missing_torn_or_lost(rt: HostRuntime) -> Result<(), Fail> {
                 capture: Some(TORN),
                 ..ONE_RECORD
             },
-            bad,
+            torn,
         ),
         // The capture's fault goes before those of the outputs.
         (
@@ -960,7 +967,7 @@ fn inputs_that_are_missing_torn_or_lost(rt: HostRuntime) -> Result<(), Fail> {
             },
             After {
                 audit: Some(b""),
-                ..bad
+                ..torn
             },
         ),
         (
@@ -968,7 +975,11 @@ fn inputs_that_are_missing_torn_or_lost(rt: HostRuntime) -> Result<(), Fail> {
                 capture: Some(&[]),
                 ..ONE_RECORD
             },
-            bad,
+            After {
+                answer: Kind::Bad(0, BadCause::Magic),
+                line: BAD,
+                ..torn
+            },
         ),
         // One octet a read: the 100th fails behind the first datagram.
         (

@@ -1,6 +1,7 @@
 ghost use Rattle.std.specs.Prelude.{◌≡◌, List, ℕ, map, string_bytes, IsTrue, IfOk, IfErr, IfSome, IfNone};
 ghost use Rattle.acct_top.specs.Answers.{HasReason, HaveOneJob, Holds, LeavesOthers, NamesFile, RunReason};
 ghost use Rattle.acct_top.specs.Complete.{IsOwed};
+ghost use Rattle.acct_top.specs.Job.{IsReplay};
 ghost use Rattle.acct_top.specs.Reading.{IsJob, IsNoJob, ReadReason};
 ghost use Rattle.acct_top.specs.Say.{SaysAnswer};
 ghost use Rattle.acct_top.specs.State.{OnlyRead, state_of};
@@ -10,8 +11,9 @@ use crate::read_map::map_of;
 use crate::read_text::{read_text, refused};
 use crate::run::run_job;
 use crate::say::say_answer;
-use crate::{Answer, AnyCause, Job};
+use crate::{Answer, AnyCause};
 use acct_types::{NoMemory, Text};
+use collect_core::Job;
 use config_keys::{ConfigCause, ConfigFault, Tool, UsageFault, Words, read_words};
 use outside_io::{Place, Sink};
 use pretag_map::{SamplingMap, TagMap};
@@ -33,6 +35,7 @@ fn named_file(alloc: Global, tool: Tool, words: &[String]) -> Result<Option<Text
 // Reads the configuration in a file and its maps, the map of tags first.
 fn read_job<P: Place>(alloc: Global, tool: Tool, place: &mut P, file: &Text) -> Result<Job, Answer>
     ensures job { IsTrue P.tells → IfOk result (λ job. IsJob job tool file.now (P.names place.old)) }
+    ensures replay { IfOk result (λ job. IsReplay job) }
     ensures refused { IsTrue P.tells → IfErr result (λ answer. IsNoJob answer tool file.now (P.names place.old)) }
     ensures reason { IfErr result (λ answer. ReadReason answer
         (state_of P.names P.taken P.open_faults P.read_faults P.write_faults place.old)

@@ -5,7 +5,7 @@ use Rattle.acct_top.specs.Say.{SaysAnswer}
 use Rattle.acct_top.specs.State.{State}
 use Rattle.acct_top.specs.Status.{status_of}
 use Rattle.acct_top.specs.declared.answer.Answer.{Answer}
-use Rattle.acct_top.specs.declared.answer.Answer.TheVariants.{Done, Usage, ConfigRefused, OpenFault, FlowFault, CaptureBad, WriteFault, SayFault, NoMemory}
+use Rattle.acct_top.specs.declared.answer.Answer.TheVariants.{Done, Usage, ConfigRefused, OpenFault, FlowFault, CaptureTorn, CaptureBad, WriteFault, SayFault, TooMany, NoMemory}
 use Rattle.config_keys.specs.declared.tool.Tool.{Tool}
 use Rattle.program.specs.Status.{AllIsDone, ZeroIsDone}
 
@@ -17,9 +17,11 @@ all_is_done Usage tool words before after says_before says_after held_before hel
 all_is_done (ConfigRefused file line cause) tool words before after says_before says_after held_before held_after is said holds = absurd (omega (arith, is))
 all_is_done (OpenFault name) tool words before after says_before says_after held_before held_after is said holds = absurd (omega (arith, is))
 all_is_done FlowFault tool words before after says_before says_after held_before held_after is said holds = absurd (omega (arith, is))
+all_is_done (CaptureTorn flows place) tool words before after says_before says_after held_before held_after is said holds = absurd (omega (arith, is))
 all_is_done (CaptureBad flows place cause) tool words before after says_before says_after held_before held_after is said holds = absurd (omega (arith, is))
 all_is_done (WriteFault name) tool words before after says_before says_after held_before held_after is said holds = absurd (omega (arith, is))
 all_is_done SayFault tool words before after says_before says_after held_before held_after is said holds = absurd (omega (arith, is))
+all_is_done (TooMany which) tool words before after says_before says_after held_before held_after is said holds = absurd (omega (arith, is))
 all_is_done NoMemory tool words before after says_before says_after held_before held_after is said holds = absurd (omega (arith, is))
 
 pub zero_is_done : ZeroIsDone

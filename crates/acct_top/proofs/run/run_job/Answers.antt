@@ -1,64 +1,96 @@
-use Rattle.std.proofs.Common.{◌≡◌, ◌∙◌, [], ℕ, List, Option, ap, sym, subst, arith}
-use Rattle.std.specs.Prelude.{◌↔◌, IsSome, IsTrue}
+use Rattle.std.proofs.Common.{◌≡◌, ◌≢◌, ◌∙◌, ℕ, List, Option, map, sym, subst, Bor, arith}
+use Rattle.std.specs.Prelude.{IsSome}
+use Rattle.std.proofs.lemmas.List.Elements.{All-map, All-weaker}
+use Rattle.collect_core.specs.Ends.{PluginEnding}
 use Rattle.outside_io.specs.Causes.{Rose}
-use Rattle.outside_io.specs.Names.{Names, old_octets}
-use Rattle.acct_top.specs.Conservation.{flows_of, IsWholeCapture}
-use Rattle.acct_top.specs.Run.{AreBegun, AreTextsOf, ReadsCapture}
-use Rattle.acct_top.proofs.RunLemmas.{Finished, job_holds, job_reason, on_ok, rose_within, run_facts}
+use Rattle.outside_io.specs.declared.ends.OutEnd.TheVariants as out
+use Rattle.plugin_work.specs.declared.plugin.PluginEnd.{PluginEnd}
+use Rattle.plugin_work.specs.Sinks.{SinkState, state_of as sink_state}
+use Rattle.acct_top.specs.Conservation.{IsNoOutput}
+use Rattle.acct_top.specs.Job.{capture_of}
+use Rattle.acct_top.specs.Run.{IsNewSink}
+use Rattle.acct_top.specs.State.{state_of}
+use Rattle.acct_top.proofs.CloseLemmas.{Counts, all_before_map, all_counted, rose_within}
+use Rattle.acct_top.proofs.JobLemmas.{job_names}
+use Rattle.acct_top.proofs.RunLemmas.{job_holds, job_reason, lent_name, named, run_facts, run_failed}
 use Rattle.acct_top.proofs.run.run_job.Goals as goal
 
-pub returns-clause-reason : goal.returns-clause-reason
-returns-clause-reason g c =
-    let place = g.P.Place in
-    let opened = c.in-Ok.ensures in
-    let read = c.in-Ok-read_capture.ensures in
-    let wrote = c.finish-output.ensures in
-    let wrote_audit = c.finish-audit.ensures in
+pub run_over-requires-clause-left : goal.run_over-requires-clause-left
+run_over-requires-clause-left g c κs within = λ told.
     let job = c.args.job.now in
-    job_reason c.answer_of.result job _ _ _ _ _ _ c.answer_of.ensures
-    (λ failed. rose_within _ _ _ _ (opened.none_fell.reads job.capture) (read.failed failed) (omega (arith, ap (λ (f : List ℕ → ℕ). f job.capture) wrote.reads, ap (λ (f : List ℕ → ℕ). f job.capture) wrote_audit.reads)))
-    (λ failed. rose_within _ _ _ _ (omega (arith, opened.none_fell.writes job.plugin.file, ap (λ (f : List ℕ → ℕ). f job.plugin.file) read.writes)) (wrote.cause failed) (wrote_audit.writes.later job.plugin.file))
-    (λ failed. rose_within _ _ _ _ (omega (arith, opened.none_fell.writes job.audit, ap (λ (f : List ℕ → ℕ). f job.audit) read.writes, wrote.writes.later job.audit)) (wrote_audit.cause failed) (omega arith))
+    let capture = c.unwrap-capture.result.now in
+    let is : capture ≡ capture_of job = lent_name (λ (n : Bor (List ℕ)). n.now) c.as_ref.result job.config.acct_flow_capture c.unwrap-capture.result c.as_ref.ensures.value c.unwrap-capture.ensures in
+    let none : IsNoOutput job capture = subst (λ (name : List ℕ). IsNoOutput job name) (sym is) (job_names job c.requires.replay).capture in
+    let same : g.P.Place.names c.open_all.new.place capture ≡ g.P.Place.names c.args.place.now capture = c.open_all.ensures.others told capture none in
+    let input = c.in-Ok.ensures.input told in
+    (subst (λ (o : Option (List ℕ)). IsSome o) (sym same) input.0, input.1 ∙ sym same)
+
+pub close_all-requires-clause-apart : goal.close_all-requires-clause-apart
+close_all-requires-clause-apart g c κs within = (job_names c.args.job.now c.requires.replay).outputs.own
+
+pub close_all-requires-clause-audit_apart : goal.close_all-requires-clause-audit_apart
+close_all-requires-clause-audit_apart g c κs within = (job_names c.args.job.now c.requires.replay).outputs.not_audit
+
+pub close_all-requires-clause-counted : goal.close_all-requires-clause-counted
+close_all-requires-clause-counted g c κs within =
+    let ending : PluginEnd g.row.P-Out.Denot → PluginEnding = λ e. record { sink = sink_state g.P.Out.Sink.held g.P.Out.Sink.faults e.out; end = e.end; purged = e.purged } in
+    let sink = λ (o : g.row.P-Out.Denot). sink_state g.P.Out.Sink.held g.P.Out.Sink.faults o in
+    let run = c.in-Ok-run_over.ensures.run in
+    all_before_map Counts ending c.in-Ok-run_over.end.plugins
+    (all_counted c.args.job.now _ c.args.job.now.config.plugins _ _ run.plugins
+    (All-map (λ (s : SinkState). s.faults ≡ 0) sink c.in-Ok.opened.outs
+    (All-weaker (λ (o : g.row.P-Out.Denot). IsNewSink g.P.Place.tells (sink o)) (λ (o : g.row.P-Out.Denot). (sink o).faults ≡ 0) (λ o new. new.no_fault) c.in-Ok.opened.outs c.in-Ok.ensures.outputs)))
+
+pub close_all-requires-clause-in_memory : goal.close_all-requires-clause-in_memory
+close_all-requires-clause-in_memory g c κs within =
+    let ending : PluginEnd g.row.P-Out.Denot → PluginEnding = λ e. record { sink = sink_state g.P.Out.Sink.held g.P.Out.Sink.faults e.out; end = e.end; purged = e.purged } in
+    all_before_map (λ (e : PluginEnding). e.end ≢ out.Memory) ending c.in-Ok-run_over.end.plugins c.in-Ok-run_over.ensures.run.plugins_in_memory
 
 pub returns-clause-holds : goal.returns-clause-holds
 returns-clause-holds g c = λ told.
-    let names = g.P.Place.names in
+    let at = λ (p : g.row.P.Denot). state_of g.P.Place.names g.P.Place.taken g.P.Place.open_faults g.P.Place.read_faults g.P.Place.write_faults p in
+    let sink = λ (o : g.row.P-Out.Denot). sink_state g.P.Out.Sink.held g.P.Out.Sink.faults o in
     let job = c.args.job.now in
-    let opened = c.in-Ok.ensures in
-    let read = c.in-Ok-read_capture.ensures in
-    let count = c.in-Ok-count_capture.ensures in
-    let wrote = c.finish-output.ensures in
-    let wrote_audit = c.finish-audit.ensures in
-    let begun = opened.names told in
-    let same : names c.read_capture.new.place ≡ names c.open_all.new.place = read.names told in
-    let unchanged : names c.open_all.new.place job.capture ≡ names c.args.place.now job.capture = begun.others job.capture (λ e. job.output_capture (sym e)) job.capture_audit in
-    let there = subst (λ (o : Option (List ℕ)). IsSome o) (sym unchanged) (opened.input told).0 in
-    let taken : g.P.Place.taken c.finish-audit.new.place ≡ g.P.Place.taken c.read_capture.new.place = wrote_audit.taken told ∙ wrote.taken told in
-    let held = opened.outputs told in
-    let first = names c.read_capture.new.place in
-    let between = names c.finish-output.new.place in
-    let last = names c.finish-audit.new.place in
-    let before = g.P.Place.write_faults c.args.place.now in
-    let after = g.P.Place.write_faults c.finish-audit.new.place in
-    job_holds c.purges_conserve.ensures c.answer_of.result job _ _ _ _ _ _ c.answer_of.ensures
-    (run_facts job _ _ (names c.read_capture.new.place) (names c.finish-output.new.place) c.in-Ok-read_capture.read.failed c.in-Ok-count_capture.counted.whole
-    c.in-Ok-read_capture.read.octets c.in-Ok-count_capture.counted.texts c.finish-output.result c.finish-audit.result
-    (subst (λ (n : Names). AreBegun job (names c.args.place.now) n) (sym same) begun)
-    (subst (λ (n : Names). ReadsCapture c.in-Ok-read_capture.read.failed c.in-Ok-read_capture.read.octets (n job.capture) (g.P.Place.taken c.finish-audit.new.place job.capture)) (sym same)
-    (subst (λ (n : Names). ReadsCapture c.in-Ok-read_capture.read.failed c.in-Ok-read_capture.read.octets (names c.open_all.new.place job.capture) (n job.capture)) (sym taken) (read.read told there)))
-    read.bound
-    (λ failed. rose_within _ _ _ _ (opened.none_fell.reads job.capture) (read.failed failed) (omega (arith, ap (λ (f : List ℕ → ℕ). f job.capture) wrote.reads, ap (λ (f : List ℕ → ℕ). f job.capture) wrote_audit.reads)))
-    (subst (λ (o : List ℕ). AreTextsOf job (flows_of o) c.in-Ok-count_capture.counted.texts) c.as_slice.ensures count.texts)
-    (subst (λ (o : List ℕ). IsTrue c.in-Ok-count_capture.counted.whole ↔ IsWholeCapture o) c.as_slice.ensures count.whole)
-    (subst (λ (text : List ℕ). Finished first between job.plugin.file (old_octets first job.plugin.file) text c.finish-output.result (Rose (before job.plugin.file) (after job.plugin.file))) c.as_slice-2.ensures (record {
-      ok = λ e. (on_ok _ _ (wrote.ok told held.0) e).here;
-      failed = λ e. wrote.failed told held.0 e;
-      cause = λ e. rose_within _ _ _ _ (omega (arith, opened.none_fell.writes job.plugin.file, ap (λ (f : List ℕ → ℕ). f job.plugin.file) read.writes)) (wrote.cause e) (wrote_audit.writes.later job.plugin.file);
-      others = wrote.others told;
+    let before = at c.args.place.now in
+    let opened = at c.open_all.new.place in
+    let over = at c.run_over.new.place in
+    let after = at c.close_all.new.place in
+    let capture = c.unwrap-capture.result.now in
+    let is : capture ≡ capture_of job = lent_name (λ (n : Bor (List ℕ)). n.now) c.as_ref.result job.config.acct_flow_capture c.unwrap-capture.result c.as_ref.ensures.value c.unwrap-capture.ensures in
+    let flow = c.in-Ok-run_over.end.flow in
+    job_holds job before after c.answer_of.result flow _ c.answer_of.ensures
+    (run_facts job g.P.Place.tells before opened over after capture (map sink c.in-Ok.opened.outs) (sink c.in-Ok.opened.audit) (sink c.run_over.new.audit) flow _ c.in-Ok-run_over.end.audit _ told (record {
+      is_capture = is;
+      apart = (job_names job c.requires.replay).capture;
+      begun = c.in-Ok.ensures.begun told;
+      before_opened = c.open_all.ensures.none_fell;
+      opened_over = c.run_over.ensures.none_fell;
+      over_after = c.close_all.ensures.none_fell;
+      names_over = c.run_over.ensures.names told;
+      new = All-map (IsNewSink g.P.Place.tells) sink c.in-Ok.opened.outs c.in-Ok.ensures.outputs;
+      audit_new = c.in-Ok.ensures.audit;
+      run = c.in-Ok-run_over.ensures.run;
+      failed = c.in-Ok-run_over.ensures.failed;
+      taken_after = c.close_all.ensures.taken told;
+      others_after = c.close_all.ensures.others told;
+      closed = λ flows written. c.in-Ok-close_all.ensures.closed told flows before _ _ written;
     }))
-    (subst (λ (text : List ℕ). Finished between last job.audit [] text c.finish-audit.result (Rose (before job.audit) (after job.audit))) c.as_slice-3.ensures (record {
-      ok = λ e. (on_ok _ _ (wrote_audit.ok told held.1) e).here;
-      failed = λ e. wrote_audit.failed told held.1 e;
-      cause = λ e. rose_within _ _ _ _ (omega (arith, opened.none_fell.writes job.audit, ap (λ (f : List ℕ → ℕ). f job.audit) read.writes, wrote.writes.later job.audit)) (wrote_audit.cause e) (omega arith);
-      others = wrote_audit.others told;
-    })))
+
+pub returns-clause-reason : goal.returns-clause-reason
+returns-clause-reason g c =
+    let at = λ (p : g.row.P.Denot). state_of g.P.Place.names g.P.Place.taken g.P.Place.open_faults g.P.Place.read_faults g.P.Place.write_faults p in
+    let job = c.args.job.now in
+    let before = at c.args.place.now in
+    let opened = at c.open_all.new.place in
+    let over = at c.run_over.new.place in
+    let after = at c.close_all.new.place in
+    let capture = c.unwrap-capture.result.now in
+    let is : capture ≡ capture_of job = lent_name (λ (n : Bor (List ℕ)). n.now) c.as_ref.result job.config.acct_flow_capture c.unwrap-capture.result c.as_ref.ensures.value c.unwrap-capture.ensures in
+    let flow = c.in-Ok-run_over.end.flow in
+    job_reason job before after c.answer_of.result flow _ c.answer_of.ensures
+    (run_failed job before opened over after capture flow is c.open_all.ensures.none_fell c.close_all.ensures.none_fell c.in-Ok-run_over.ensures.failed)
+    (λ other is_name.
+    let rose = named (λ (n : Bor (List ℕ)). n.now) (λ (name : List ℕ). Rose (over.writes name) (after.writes name)) c.in-Ok-close_all.unwritten c.in-Ok-close_all.ensures.cause other is_name in
+    let first = c.open_all.ensures.none_fell.writes other in
+    let last = c.run_over.ensures.none_fell.writes other in
+    rose_within (before.writes other) (over.writes other) (after.writes other) (after.writes other) (omega arith) rose (omega arith))

@@ -1,6 +1,6 @@
 use Rattle.std.proofs.Common.{◌∙◌, map, string_bytes, ap}
 use Rattle.outside_io.specs.Names.{Names}
-use Rattle.acct_top.proofs.TopLemmas.{holds_of_words, job_earlier}
+use Rattle.acct_top.proofs.TopLemmas.{holds_of_words, job_earlier, reason_of_words}
 use Rattle.acct_top.proofs.top.run.Goals as goal
 
 pub returns-in-Ok-clause-holds : goal.returns-in-Ok-clause-holds
@@ -16,4 +16,7 @@ pub returns-in-Ok-clause-others : goal.returns-in-Ok-clause-others
 returns-in-Ok-clause-others g c = λ told name apart.
     let read = c.in-Ok.ensures in
     let other = apart c.in-Ok.job (record { file = c.in-Ok-Some.file; named = rw c.in-Ok-Some.field-0-is at c.in-Ok-Some.ensures.named; is_job = read.job told }) in
-    c.run_job.ensures.others told name other.0 other.1 ∙ ap (λ (n : Names). n name) (read.names told)
+    c.run_job.ensures.others told name other ∙ ap (λ (n : Names). n name) (read.names told)
+
+pub returns-in-Ok-clause-reason : goal.returns-in-Ok-clause-reason
+returns-in-Ok-clause-reason g c = reason_of_words c.run_job.result g.P.Place.tells c.args.tool (map string_bytes c.args.words.now) _ _ _ c.in-Ok.ensures.only_read c.run_job.ensures.reason
