@@ -17,10 +17,15 @@ pub enum Part {
     FromV6(u64, &'static [u8]),
     /// At a moment a datagram of these octets from 192.0.2.1.
     Alone(u64, &'static [u8]),
+    /// At 1,000 ms a datagram of these parts from 192.0.2.N.
+    Of(u8, &'static [&'static [u8]]),
 }
 
 /// A file's name, and what it holds.
 pub type File = (&'static [u8], &'static [u8]);
+
+/// A file's name, so many times which octets it holds, and what stands behind them.
+pub type LongFile = (&'static [u8], usize, &'static [u8], &'static [u8]);
 
 /// What a run is given.
 #[derive(Clone, Copy)]
@@ -34,8 +39,11 @@ pub struct Given {
     pub tail: &'static [u8],
     /// How many octets of the capture are there.
     pub cut: usize,
+    /// There is no capture.
+    pub uncaptured: bool,
     /// What else there is.
     pub files: &'static [File],
+    pub long: Option<LongFile>,
     /// The openings and the closings, by their numbers from 1, that fail.
     pub opens: &'static [u64],
     pub closes: &'static [u64],
@@ -84,6 +92,23 @@ fn version_5(alloc: Global, sources: &[u8]) -> Result<Octets, NoMemory> {
     Ok(octets)
 }
 
+fn joined(alloc: Global, parts: &[&[u8]]) -> Result<Octets, NoMemory> {
+    let mut octets = Octets::new(alloc);
+    for part in parts {
+        octets.extend(part)?;
+    }
+    Ok(octets)
+}
+
+fn repeated(alloc: Global, times: usize, octets: &[u8], end: &[u8]) -> Result<Octets, NoMemory> {
+    let mut all = Octets::new(alloc);
+    for _ in 0..times {
+        all.extend(octets)?;
+    }
+    all.extend(end)?;
+    Ok(all)
+}
+
 const V4: &[u8] = b"\xc0\0\x02\x01";
 
 const V6: &[u8] = b"\x20\x01\x0d\xb8\0\0\0\0\0\0\0\0\0\0\0\x01";
@@ -99,40 +124,53 @@ fn push_part(alloc: Global, out: &mut Octets, part: Part) -> Result<(), NoMemory
             push_event(out, b"\x06", moment, V6, datagram.as_slice())
         }
         Part::Alone(moment, datagram) => push_event(out, b"\x04", moment, V4, datagram),
+        Part::Of(exporter, parts) => {
+            let datagram = joined(alloc, parts)?;
+            push_event(
+                out,
+                b"\x04",
+                1_000,
+                &[192, 0, 2, exporter],
+                datagram.as_slice(),
+            )
+        }
     }
 }
 
-fn capture(alloc: Global, given: &Given) -> Result<Octets, NoMemory> {
+fn capture(alloc: Global, given: &Given) -> Result<Option<Octets>, NoMemory> {
+    if given.uncaptured {
+        return Ok(None);
+    }
     let mut octets = Octets::from_slice(alloc, b"PMACAP01")?;
     for part in given.capture {
         push_part(alloc, &mut octets, *part)?;
     }
     octets.extend(given.tail)?;
     octets.truncate(given.cut);
-    Ok(octets)
-}
-
-fn config(alloc: Global, given: &Given) -> Result<Octets, NoMemory> {
-    let mut text = Octets::new(alloc);
-    for part in given.config {
-        text.extend(part)?;
-    }
-    Ok(text)
+    Ok(Some(octets))
 }
 
 fn place(alloc: Global, given: &Given) -> Result<MemoryPlace, NoMemory> {
     let opens = List::from_slice(alloc, given.opens)?;
     let closes = List::from_slice(alloc, given.closes)?;
     let mut place = MemoryPlace::new(alloc, opens, closes);
-    place.put(Text::from_slice(alloc, b"c.conf")?, config(alloc, given)?)?;
     place.put(
-        Text::from_slice(alloc, b"flows.cap")?,
-        capture(alloc, given)?,
+        Text::from_slice(alloc, b"c.conf")?,
+        joined(alloc, given.config)?,
     )?;
+    if let Some(octets) = capture(alloc, given)? {
+        place.put(Text::from_slice(alloc, b"flows.cap")?, octets)?;
+    }
     for (name, octets) in given.files {
         place.put(
             Text::from_slice(alloc, name)?,
             Octets::from_slice(alloc, octets)?,
+        )?;
+    }
+    if let Some((name, times, octets, end)) = given.long {
+        place.put(
+            Text::from_slice(alloc, name)?,
+            repeated(alloc, times, octets, end)?,
         )?;
     }
     for (name, most, failing) in given.shapes {
@@ -172,7 +210,11 @@ fn is_front(held: Option<&Octets>, octets: &[u8], most: usize) -> bool {
 }
 
 /// The first thing in which a run differs from what is wanted: the status, the line, a file, or what was read.
-pub fn difference(alloc: Global, given: &Given, wanted: &Wanted) -> Result<&'static [u8], Fail> {
+pub(crate) fn difference(
+    alloc: Global,
+    given: &Given,
+    wanted: &Wanted,
+) -> Result<&'static [u8], Fail> {
     let mut place = place(alloc, given)?;
     let words = words(alloc)?;
     let mut say = MemorySink::new(alloc, 64, List::new(alloc));
@@ -193,23 +235,26 @@ pub fn difference(alloc: Global, given: &Given, wanted: &Wanted) -> Result<&'sta
             return Ok(name);
         }
     }
-    let read = [
-        (Text::from_slice(alloc, b"c.conf")?, config(alloc, given)?),
-        (
-            Text::from_slice(alloc, b"flows.cap")?,
-            capture(alloc, given)?,
-        ),
-    ];
-    for (name, octets) in &read {
-        if !is_held(place.get(name), Some(octets.as_slice())) {
-            return Ok(b"inputs");
-        }
+    let text = joined(alloc, given.config)?;
+    if !is_held(
+        place.get(&Text::from_slice(alloc, b"c.conf")?),
+        Some(text.as_slice()),
+    ) {
+        return Ok(b"configuration");
+    }
+    let captured = capture(alloc, given)?;
+    let octets = captured.as_ref().map(|octets| octets.as_slice());
+    if !is_held(place.get(&Text::from_slice(alloc, b"flows.cap")?), octets) {
+        return Ok(b"capture");
     }
     Ok(b"none")
 }
 
 /// The number, from 0, of the first case that differs, and in what.
-pub fn first_difference(alloc: Global, cases: &[Case]) -> Result<(usize, &'static [u8]), Fail> {
+pub(crate) fn first_difference(
+    alloc: Global,
+    cases: &[Case],
+) -> Result<(usize, &'static [u8]), Fail> {
     for (index, (given, wanted)) in cases.iter().enumerate() {
         let found = difference(alloc, given, wanted)?;
         if found != b"none".as_slice() {
@@ -226,7 +271,9 @@ pub const EMPTY: Given = Given {
     capture: &[],
     tail: b"",
     cut: usize::MAX,
+    uncaptured: false,
     files: &[],
+    long: None,
     opens: &[],
     closes: &[],
     shapes: &[],
