@@ -1,30 +1,21 @@
 -- The table of a record's layout.
-use Rattle.std.proofs.Common.{◌≡◌, ◌≢◌, ◌<◌, ◌∙◌, ℕ, Bool, true, false, List, [], ◌∷◌, Option, Some, None, ◌+◌, zero, suc, length, take, drop, set, refl, sym, ap, arith}
-use Rattle.std.specs.Prelude.{◌==◌, ◌||◌, ◌&&◌, nat_lt, not, is_some, if◌then◌else◌, replicate, IfSome}
+use Rattle.std.proofs.Common.{◌≡◌, ◌≢◌, ◌<◌, ◌∙◌, ℕ, Bool, true, false, List, [], ◌∷◌, Option, Some, None, ◌+◌, zero, suc, length, take, drop, set, refl, sym, ap, subst, arith}
+use Rattle.std.specs.Prelude.{◌==◌, ◌||◌, ◌&&◌, not, is_some, if◌then◌else◌, replicate, IfSome}
 use Rattle.std.specs.List.{list_all}
 use Rattle.std.specs.Option.{option_or}
-use Rattle.std.proofs.lemmas.Bool.{and_parts, eqb-false, eqb-true, ltb-true}
+use Rattle.std.proofs.lemmas.Bool.{and_parts, eq-eqb, eqb-false, eqb-true, true≢false}
 use Rattle.std.proofs.lemmas.List.{at_drop_more, get_or-set_other, get_or-set_same}
 use Rattle.std.proofs.Math.ListN.{get_or}
+use Rattle.std.proofs.lemmas.Nat.{mod_below}
 use Rattle.flow_templates.specs.declared.template.FieldSpec.{FieldSpec}
 use Rattle.flow_templates.specs.Elements.{addresses_v4, addresses_v6, ipfix_numbers, is_among, macs, numbers}
 use Rattle.flow_templates.specs.declared.template.Template.{Template}
 use Rattle.flow_sets.specs.declared.fields.Span.{Span}
 use Rattle.flow_sets.specs.Fields.{end_of, end_of_all, has_element, is_known, is_read, record_length, skipped, span_at, span_in, span_of}
-use Rattle.flow_sets.specs.Layout.{listed}
+use Rattle.flow_sets.specs.Layout.{listed, slot}
 use Rattle.flow_sets.proofs.FieldLemmas.{ends_behind}
 
--- ---- elements that are read have a place in the table
-
-pub below_among : (xs : List ℕ) (x limit : ℕ) → list_all (λ y. nat_lt y limit) xs ≡ true → is_among xs x ≡ true → x < limit
-below_among [] x limit all h = cc h
-below_among (y ∷ xs) x limit all h =
-    let parts = and_parts (nat_lt y limit) (list_all (λ y. nat_lt y limit) xs) all in
-    by (x == y) refl parts.0 (below_among xs x limit parts.1) h
-  where
-    by : (b : Bool) → (x == y) ≡ b → nat_lt y limit ≡ true → (is_among xs x ≡ true → x < limit) → (b || is_among xs x) ≡ true → x < limit
-    by true e here rest h = let same = eqb-true x y e in let below = ltb-true y limit here in omega (arith, same, below)
-    by false e here rest h = rest h
+-- ---- elements that are read have slots of their own
 
 pub by_lists : (i v n a b m : Bool) (P : Type 0) → (i ≡ true → P) → (n ≡ true → P) → (a ≡ true → P) → (b ≡ true → P) → (m ≡ true → P)
     → (if i then v else n || a || b || m) ≡ true → P
@@ -35,15 +26,56 @@ by_lists false v false false true m P p q r s t h = s refl
 by_lists false v false false false true P p q r s t h = t refl
 by_lists false v false false false false P p q r s t h = cc h
 
-pub read_below : (version element : ℕ) → is_read version element ≡ true → element < 307
-read_below version element h =
-    by_lists (is_among ipfix_numbers element) (version == 10) (is_among numbers element) (is_among addresses_v4 element) (is_among addresses_v6 element)
-    (is_among macs element) (element < 307)
-    (below_among ipfix_numbers element 307 refl) (below_among numbers element 307 refl) (below_among addresses_v4 element 307 refl)
-    (below_among addresses_v6 element 307 refl) (below_among macs element 307 refl) h
+-- what is read in a version is read in version 10
+pub read_in_ten : (version element : ℕ) → is_read version element ≡ true → is_read 10 element ≡ true
+read_in_ten version element h =
+    by (is_among ipfix_numbers element) (is_among numbers element || is_among addresses_v4 element || is_among addresses_v6 element || is_among macs element) h
+  where
+    by : (i others : Bool) → (if i then version == 10 else others) ≡ true → (if i then true else others) ≡ true
+    by true others h = refl
+    by false others h = h
 
-pub known_below : (version : ℕ) (field : FieldSpec) → is_known version field ≡ true → field.element < 307
-known_below version field h = read_below version field.element (and_parts (not (is_some field.enterprise)) (is_read version field.element) h).1
+pub known_read : (version : ℕ) (field : FieldSpec) → is_known version field ≡ true → is_read 10 field.element ≡ true
+known_read version field h = read_in_ten version field.element (and_parts (not (is_some field.enterprise)) (is_read version field.element) h).1
+
+-- an element of a list is one of its elements: what holds of each of them, holds of it
+pub among : (P : ℕ → Bool) (xs : List ℕ) (x : ℕ) → list_all P xs ≡ true → is_among xs x ≡ true → P x ≡ true
+among P [] x all h = cc h
+among P (y ∷ xs) x all h =
+    let parts = and_parts (P y) (list_all P xs) all in
+    by (x == y) refl parts.0 (among P xs x parts.1) h
+  where
+    by : (b : Bool) → (x == y) ≡ b → P y ≡ true → (is_among xs x ≡ true → P x ≡ true) → (b || is_among xs x) ≡ true → P x ≡ true
+    by true e here rest h = subst (λ (z : ℕ). P z ≡ true) (sym (eqb-true x y e)) here
+    by false e here rest h = rest h
+
+all_read : (ℕ → Bool) → Bool
+all_read P = list_all P ipfix_numbers && (list_all P numbers && (list_all P addresses_v4 && (list_all P addresses_v6 && list_all P macs)))
+
+-- what holds of all elements that are read, holds of each
+of_read : (P : ℕ → Bool) (element : ℕ) → all_read P ≡ true → is_read 10 element ≡ true → P element ≡ true
+unfolding all_read
+of_read P element all h =
+    let i = and_parts (list_all P ipfix_numbers) _ all in
+    let n = and_parts (list_all P numbers) _ i.1 in
+    let a = and_parts (list_all P addresses_v4) _ n.1 in
+    let b = and_parts (list_all P addresses_v6) (list_all P macs) a.1 in
+    by_lists (is_among ipfix_numbers element) true (is_among numbers element) (is_among addresses_v4 element) (is_among addresses_v6 element)
+    (is_among macs element) (P element ≡ true)
+    (among P ipfix_numbers element i.0) (among P numbers element n.0) (among P addresses_v4 element a.0) (among P addresses_v6 element b.0) (among P macs element b.1) h
+
+has_own_slot : ℕ → ℕ → Bool
+has_own_slot one other = not (slot one == slot other) || one == other
+
+-- no two elements that are read have one slot
+own_slots : (one other : ℕ) → is_read 10 one ≡ true → is_read 10 other ≡ true → slot one ≡ slot other → one ≡ other
+unfolding all_read has_own_slot
+own_slots one other this that same =
+    by (slot one == slot other) (eq-eqb (slot one) (slot other) same) (of_read (λ (x : ℕ). has_own_slot x other) one (of_read (λ (y : ℕ). all_read (λ (x : ℕ). has_own_slot x y)) other refl that) this)
+  where
+    by : (b : Bool) → b ≡ true → (not b || one == other) ≡ true → one ≡ other
+    by true e h = eqb-true one other h
+    by false e h = cc e
 
 -- ---- one more field
 
@@ -59,29 +91,43 @@ pub unknown : (version : ℕ) (field : FieldSpec) (span : Span) (spans : List (O
 unknown version field span spans h element = rw h (or_none (listed spans element))
 
 -- an element that is noted
-pub repeated : (version : ℕ) (field : FieldSpec) (span : Span) (spans : List (Option Span)) → listed spans field.element ≢ None → Noted version field span spans spans
-repeated version field span spans h element = by (has_element version element field) refl
+pub repeated : (version : ℕ) (field : FieldSpec) (span : Span) (spans : List (Option Span)) → is_known version field ≡ true
+    → get_or spans (slot field.element) None ≢ None → Noted version field span spans spans
+repeated version field span spans known h element = by (has_element version element field) refl
   where
     there : (x : Option Span) → x ≢ None → x ≡ option_or x (Some span)
     there None h = absurd (h refl)
     there (Some old) h = refl
 
+    here : (is : Bool) → is ≡ true → (if is then get_or spans (slot field.element) None else None) ≢ None
+    here true e = h
+    here false e = cc e
+
     by : (b : Bool) → has_element version element field ≡ b → listed spans element ≡ option_or (listed spans element) (if b then Some span else None)
     by true e = let same = eqb-true field.element element (and_parts (is_known version field) (field.element == element) e).1 in
-        there (listed spans element) (λ none. h (ap (listed spans) same ∙ none))
+        there (listed spans element) (λ none. here (is_read 10 field.element) (known_read version field known) (ap (listed spans) same ∙ none))
     by false e = or_none (listed spans element)
 
 -- an element that isn't noted yet
-pub newly : (version : ℕ) (field : FieldSpec) (span : Span) (spans : List (Option Span)) (slot : ℕ) → slot ≡ field.element → is_known version field ≡ true → length spans ≡ 307
-    → listed spans slot ≡ None → Noted version field span spans (set spans slot (Some span))
-newly version field span spans slot at known size none element = by (known_below version field known) (field.element == element) refl
+pub newly : (version : ℕ) (field : FieldSpec) (span : Span) (spans : List (Option Span)) (place : ℕ) → place ≡ slot field.element → is_known version field ≡ true → length spans ≡ 65
+    → get_or spans place None ≡ None → Noted version field span spans (set spans place (Some span))
+newly version field span spans place at known size none element = by (field.element == element) (is_read 10 element) refl refl
   where
-    by : field.element < 307 → (b : Bool) → (field.element == element) ≡ b
-        → listed (set spans slot (Some span)) element ≡ option_or (listed spans element) (if is_known version field && b then Some span else None)
-    by below true e = let same : slot ≡ element = at ∙ eqb-true field.element element e in
-        rw known (ap (listed (set spans slot (Some span))) (sym same) ∙ get_or-set_same spans slot (Some span) None (omega (arith, at, below, size))
-        ∙ sym (ap (λ (x : Option Span). option_or x (Some span)) (ap (listed spans) (sym same) ∙ none)))
-    by below false e = rw known (get_or-set_other spans slot element (Some span) None (λ same. eqb-false field.element element e (sym at ∙ sym same)) ∙ or_none (listed spans element))
+    by : (b is : Bool) → (field.element == element) ≡ b → is_read 10 element ≡ is
+        → (if is then get_or (set spans place (Some span)) (slot element) None else None)
+        ≡ option_or (if is then get_or spans (slot element) None else None) (if is_known version field && b then Some span else None)
+    by true true e read =
+        let same : place ≡ slot element = at ∙ ap slot (eqb-true field.element element e) in
+        let below = mod_below element 65 (omega arith) in
+        rw known (ap (λ (n : ℕ). get_or (set spans place (Some span)) n None) (sym same)
+        ∙ get_or-set_same spans place (Some span) None (omega (arith, same, below, size))
+        ∙ sym (ap (λ (x : Option Span). option_or x (Some span)) (ap (λ (n : ℕ). get_or spans n None) (sym same) ∙ none)))
+    by true false e read = absurd (true≢false (sym (known_read version field known) ∙ ap (is_read 10) (eqb-true field.element element e) ∙ read))
+    by false true e read =
+        rw known (get_or-set_other spans place (slot element) (Some span) None
+        (λ same. eqb-false field.element element e (own_slots field.element element (known_read version field known) read (sym at ∙ sym same)))
+        ∙ or_none (get_or spans (slot element) None))
+    by false false e read = rw known refl
 
 -- ---- fields one behind another
 
@@ -121,9 +167,16 @@ ends_in_parts version (suc count) (field ∷ fields) octets place = ends_in_part
 -- ---- a record
 
 pub nothing_listed : (count element : ℕ) → listed (replicate count None) element ≡ None
-nothing_listed zero element = refl
-nothing_listed (suc count) zero = refl
-nothing_listed (suc count) (suc element) = nothing_listed count element
+nothing_listed count element = by (is_read 10 element) (get_or (replicate count None) (slot element) None) (none count (slot element) None)
+  where
+    none : (count slot : ℕ) (nothing : Option Span) → get_or (replicate count nothing) slot nothing ≡ nothing
+    none zero slot nothing = refl
+    none (suc count) zero nothing = refl
+    none (suc count) (suc slot) nothing = none count slot nothing
+
+    by : (b : Bool) (x : Option Span) → x ≡ None → (if b then x else None) ≡ None
+    by true x h = h
+    by false x h = refl
 
 pub whole_length : (version : ℕ) (template : Template) (octets : List ℕ) (scope others : List FieldSpec) (begin : ℕ) → scope ≡ take (skipped version template) template.fields
     → others ≡ drop (skipped version template) template.fields → begin ≡ end_of_all version scope octets 0

@@ -1,23 +1,12 @@
 -- Elements and the widths that they may have.
-use Rattle.std.proofs.Common.{◌≡◌, ◌<◌, ◌≤◌, ℕ, Bool, true, false, List, [], ◌∷◌, Option, Some, None, refl, ap, sym, subst, arith}
+use Rattle.std.proofs.Common.{◌≡◌, ◌≤◌, ℕ, Bool, true, false, Option, Some, None, refl, ap, arith}
 use Rattle.std.specs.Prelude.{◌==◌, ◌||◌, nat_le, not, if◌then◌else◌}
-use Rattle.std.specs.List.{list_all}
 use Rattle.std.specs.Option.{option_eq}
 use Rattle.std.proofs.lemmas.Bool.{and_parts, eqb-true, leb-true}
 use Rattle.flow_templates.specs.Elements.{addresses_v4, addresses_v6, ipfix_numbers, is_among, is_number_width, is_width, macs, numbers}
+use Rattle.flow_sets.specs.Fields.{is_read}
 use Rattle.flow_sets.specs.Layout.{is_short}
-use Rattle.flow_sets.proofs.LayoutLemmas.{below_among}
-
--- an element of a list is one of its elements: what holds of each of them, holds of it
-among : (P : ℕ → Bool) (xs : List ℕ) (x : ℕ) → list_all P xs ≡ true → is_among xs x ≡ true → P x ≡ true
-among P [] x all h = cc h
-among P (y ∷ xs) x all h =
-    let parts = and_parts (P y) (list_all P xs) all in
-    by (x == y) refl parts.0 (among P xs x parts.1) h
-  where
-    by : (b : Bool) → (x == y) ≡ b → P y ≡ true → (is_among xs x ≡ true → P x ≡ true) → (b || is_among xs x) ≡ true → P x ≡ true
-    by true e here rest h = subst (λ (z : ℕ). P z ≡ true) (sym (eqb-true x y e)) here
-    by false e here rest h = rest h
+use Rattle.flow_sets.proofs.LayoutLemmas.{among}
 
 pub number_width : (width : ℕ) → is_number_width width ≡ true → (1 ≤ width) × (width ≤ 8)
 number_width width h = let parts = and_parts (nat_le 1 width) (nat_le width 8) h in (leb-true 1 width parts.0, leb-true width 8 parts.1)
@@ -28,16 +17,16 @@ short_cases false true m P p q r h = q refl
 short_cases false false true P p q r h = r refl
 short_cases false false false P p q r h = cc h
 
-pub short_below : (element : ℕ) → is_short element ≡ true → element < 307
-short_below element h =
-    short_cases (is_among numbers element) (is_among ipfix_numbers element) (is_among macs element) (element < 307)
-    (below_among numbers element 307 refl) (below_among ipfix_numbers element 307 refl) (below_among macs element 307 refl) h
+pub short_read : (element : ℕ) → is_short element ≡ true → is_read 10 element ≡ true
+short_read element h =
+    short_cases (is_among numbers element) (is_among ipfix_numbers element) (is_among macs element) (is_read 10 element ≡ true)
+    (among (is_read 10) numbers element refl) (among (is_read 10) ipfix_numbers element refl) (among (is_read 10) macs element refl) h
 
-pub below_v4 : (element : ℕ) → is_among addresses_v4 element ≡ true → element < 307
-below_v4 element h = below_among addresses_v4 element 307 refl h
+pub read_v4 : (element : ℕ) → is_among addresses_v4 element ≡ true → is_read 10 element ≡ true
+read_v4 element h = among (is_read 10) addresses_v4 element refl h
 
-pub below_v6 : (element : ℕ) → is_among addresses_v6 element ≡ true → element < 307
-below_v6 element h = below_among addresses_v6 element 307 refl h
+pub read_v6 : (element : ℕ) → is_among addresses_v6 element ≡ true → is_read 10 element ≡ true
+read_v6 element h = among (is_read 10) addresses_v6 element refl h
 
 -- ---- widths
 

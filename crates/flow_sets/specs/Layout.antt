@@ -1,5 +1,5 @@
 -- The table of a record's layout, which has under each element where it stands.
-use Rattle.std.specs.Prelude.{ℕ, ◌≡◌, ◌<◌, ◌+◌, ◌≤◌, ◌||◌, Bool, true, List, Option, None, length, get_or, IfSome, not, option_map}
+use Rattle.std.specs.Prelude.{ℕ, ◌≡◌, ◌<◌, ◌+◌, ◌≤◌, ◌%◌, ◌||◌, Bool, true, List, Option, None, length, get_or, IfSome, not, option_map, if◌then◌else◌}
 use Rattle.flow_templates.specs.declared.template.Template.{Template}
 use Rattle.flow_templates.specs.Templates.{least_length}
 use Rattle.flow_templates.specs.Elements.{ipfix_numbers, is_among, is_width, macs, numbers}
@@ -7,10 +7,14 @@ use Rattle.acct_types.specs.Numbers.{number_at}
 use Rattle.std.specs.List.{list_all}
 use Rattle.flow_sets.specs.declared.fields.Span.{Span}
 use Rattle.flow_sets.specs.declared.layout.Layout.{Layout}
-use Rattle.flow_sets.specs.Fields.{is_variable, record_length, span_at}
+use Rattle.flow_sets.specs.Fields.{is_read, is_variable, record_length, span_at}
+
+-- elements that are read have slots of their own
+abbrev pub slot : ℕ → ℕ
+slot element = element % 65
 
 abbrev pub listed : List (Option Span) → ℕ → Option Span
-listed spans element = get_or spans element None
+listed spans element = if is_read 10 element then get_or spans (slot element) None else None
 
 -- the table is that of the record at the front
 abbrev pub LaysOut : ℕ → Template → List ℕ → List (Option Span) → Type 0

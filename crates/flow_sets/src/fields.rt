@@ -9,8 +9,8 @@ use flow_templates::FieldSpec;
 /// Where the octets of a field's content stand in its record.
 #[derive(Clone, Copy, Debug, PartialEq, Eq)]
 pub(crate) struct Span {
-    pub(crate) place: usize,
-    pub(crate) width: usize,
+    pub(crate) place: u16,
+    pub(crate) width: u16,
 }
 
 pub(crate) fn is_read(version: u16, element: u16) -> bool
@@ -62,11 +62,13 @@ fn span_within(octets: &[u8], place: usize, width: u16) -> Option<Span>
     ensures { MatchOption result (length octets.now < place + width)
         (λ span. (span ≡ record { place = place; width = width }) × (place + width ≤ length octets.now)) }
 {
-    let width = usize::from(width);
-    if octets.len() < place + width {
+    if octets.len() < place + usize::from(width) {
         return None;
     }
-    Some(Span { place, width })
+    Some(Span {
+        place: place as u16,
+        width,
+    })
 }
 
 // The content of a field that begins at a place, None exactly where the field passes the end.
@@ -109,7 +111,7 @@ pub(crate) fn end_of_all(
         let Some(span) = span_of(version, field, octets, end) else {
             return None;
         };
-        end = span.place + span.width;
+        end = usize::from(span.place) + usize::from(span.width);
     }
     Some(end)
 }

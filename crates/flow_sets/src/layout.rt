@@ -1,19 +1,34 @@
-//! Where the elements stand in the records of a template. A table has a place for each element, so that a template is walked
-//! once for all of them.
+//! Where the elements stand in the records of a template. A table has a slot for each element that is read, so that a template
+//! is walked once for all of them.
 
 ghost use Rattle.std.specs.Prelude.{◌≡◌, ◌<◌, ◌≤◌, if◌then◌else◌, length, true, IfSome, MatchOption, Some, None};
 ghost use Rattle.std.specs.Option.{option_or};
 ghost use Rattle.flow_templates.specs.Templates.{is_accepted, least_length};
-ghost use Rattle.flow_sets.specs.Fields.{end_of_all, has_element, is_known, is_variable, record_length, skipped, span_in};
-ghost use Rattle.flow_sets.specs.Layout.{IsLayout, LaysOut, Serves, is_fixed, listed};
+ghost use Rattle.flow_sets.specs.Fields.{end_of_all, has_element, is_known, is_read, is_variable, record_length, skipped, span_in};
+ghost use Rattle.flow_sets.specs.Layout.{IsLayout, LaysOut, Serves, is_fixed, listed, slot};
 
 use crate::fields::{Span, end_of_all, is_read, is_variable, span_of};
 use flow_templates::{FieldSpec, Template};
 
-/// One past the greatest element that is read.
-pub(crate) const ELEMENTS: usize = 307;
+/// The least modulus under which no two elements that are read have the same remainder.
+pub(crate) const SLOTS: usize = 65;
 
-pub(crate) type Spans = [Option<Span>; ELEMENTS];
+pub(crate) type Spans = [Option<Span>; SLOTS];
+
+fn slot_of(element: u16) -> usize
+    ensures slot { result ≡ slot element }
+    ensures within { result < 65 }
+{
+    usize::from(element) % SLOTS
+}
+
+/// Where an element stands that is read.
+pub(crate) fn listed(spans: &Spans, element: u16) -> Option<Span>
+    requires { is_read 10 element ≡ true }
+    ensures { result ≡ listed spans.now element }
+{
+    spans[slot_of(element)]
+}
 
 fn is_known(version: u16, field: &FieldSpec) -> bool
     ensures { result ≡ is_known version field.now }
@@ -36,12 +51,12 @@ fn note(version: u16, field: &FieldSpec, span: Span, spans: &mut Spans)
     if !is_known(version, field) {
         return;
     }
-    let element = usize::from(field.element);
-    let noted = spans[element];
+    let slot = slot_of(field.element);
+    let noted = spans[slot];
     let None = noted else {
         return;
     };
-    spans[element] = Some(span);
+    spans[slot] = Some(span);
 }
 
 // Notes fields one behind another, of which the first begins at a place, and gives where they end: None exactly where one
@@ -65,7 +80,7 @@ fn note_all(
         let Some(span) = span_of(version, field, octets, end) else {
             return None;
         };
-        end = span.place + span.width;
+        end = usize::from(span.place) + usize::from(span.width);
         note(version, field, span, spans);
     }
     Some(end)
@@ -92,7 +107,7 @@ fn lay_out(version: u16, template: &Template, octets: &[u8], spans: &mut Spans) 
         (λ used. (used ≡ record_length version template.now octets.now) × (used ≤ length octets.now)) }
     ensures spans { IfSome result (λ used. LaysOut version template.now octets.now spans.new) }
 {
-    *spans = [None; ELEMENTS];
+    *spans = [None; SLOTS];
     let (scope, others) = template
         .fields
         .as_slice()
@@ -120,7 +135,7 @@ impl Layout {
         ensures { result.used ≡ 0 }
     {
         Layout {
-            spans: [None; ELEMENTS],
+            spans: [None; SLOTS],
             used: 0,
         }
     }

@@ -8,48 +8,48 @@ ghost use Rattle.flow_sets.specs.Layout.{FitsWithin, is_short, numbers_by};
 ghost use Rattle.flow_sets.specs.Rates.{clamped, own_rate, ratio, rate_for, sampler_of, told_rate};
 ghost use Rattle.flow_sets.specs.Records.{address, count, flow_of};
 
-use crate::layout::Spans;
+use crate::layout::{Spans, listed};
 use acct_types::numbers::{u32_at, u128_at, uint_at};
 use acct_types::{Addr, Counts, FlowRecord};
 use flow_templates::{Domain, Staged, Stores};
 
 // The number of one to eight octets under an element.
-#[tactic(auto, using(crate::proofs::RecordLemmas::short_width, crate::proofs::RecordLemmas::short_below))]
+#[tactic(auto, using(crate::proofs::RecordLemmas::short_width, crate::proofs::RecordLemmas::short_read))]
 fn number(spans: &Spans, octets: &[u8], element: u16) -> Option<u64>
     requires layout { FitsWithin (length octets.now) spans.now }
     requires element { is_short element ≡ true }
     ensures { result ≡ numbers_by spans.now octets.now element }
 {
-    let Some(span) = spans[usize::from(element)] else {
+    let Some(span) = listed(spans, element) else {
         return None;
     };
-    Some(uint_at(octets, span.place, span.width))
+    Some(uint_at(octets, usize::from(span.place), usize::from(span.width)))
 }
 
 // The IPv4 address under an element.
-#[tactic(auto, using(crate::proofs::RecordLemmas::width_v4, crate::proofs::RecordLemmas::below_v4))]
+#[tactic(auto, using(crate::proofs::RecordLemmas::width_v4, crate::proofs::RecordLemmas::read_v4))]
 fn number_v4(spans: &Spans, octets: &[u8], element: u16) -> Option<u32>
     requires layout { FitsWithin (length octets.now) spans.now }
     requires element { is_among addresses_v4 element ≡ true }
     ensures { result ≡ numbers_by spans.now octets.now element }
 {
-    let Some(span) = spans[usize::from(element)] else {
+    let Some(span) = listed(spans, element) else {
         return None;
     };
-    Some(u32_at(octets, span.place))
+    Some(u32_at(octets, usize::from(span.place)))
 }
 
 // The IPv6 address under an element.
-#[tactic(auto, using(crate::proofs::RecordLemmas::width_v6, crate::proofs::RecordLemmas::below_v6))]
+#[tactic(auto, using(crate::proofs::RecordLemmas::width_v6, crate::proofs::RecordLemmas::read_v6))]
 fn number_v6(spans: &Spans, octets: &[u8], element: u16) -> Option<u128>
     requires layout { FitsWithin (length octets.now) spans.now }
     requires element { is_among addresses_v6 element ≡ true }
     ensures { result ≡ numbers_by spans.now octets.now element }
 {
-    let Some(span) = spans[usize::from(element)] else {
+    let Some(span) = listed(spans, element) else {
         return None;
     };
-    Some(u128_at(octets, span.place))
+    Some(u128_at(octets, usize::from(span.place)))
 }
 
 fn address(spans: &Spans, octets: &[u8], v4: u16, v6: u16) -> Option<Addr>

@@ -1,9 +1,10 @@
-ghost use Rattle.std.specs.Prelude.{◌≡◌, ◌≤◌, [], ◌∷◌, OnOk, OnErr, IsOk, IfOk, length, true, vec_capacity};
+ghost use Rattle.std.specs.Prelude.{◌≡◌, ◌≤◌, [], ◌∷◌, OnOk, OnErr, IsOk, IfOk, IsPermutation, IsSorted, length, map, true};
 ghost use Rattle.std.specs.List.Sorted.{IsStrictlySortedBy};
 ghost use Rattle.std.specs.Map.{lookup};
+ghost use Rattle.std.specs.Map.Iter.{deref_pair};
 ghost use Rattle.acct_types.specs.Cells.{key_cmp, key_eq};
 ghost use Rattle.acct_types.specs.Counts.{CountsFit, plus};
-ghost use Rattle.indexmap.specs.IndexMap.{spare};
+ghost use Rattle.indexmap.specs.IndexMap.{IsUnique, spare};
 ghost use Rattle.plugin_cache.specs.Sums.{EntriesAddUp, HaveOnePurge, PurgesConserve, keys_in};
 
 use acct_types::{Counts, Key, List, NoMemory, keys_are_ordered};
@@ -27,18 +28,33 @@ impl Model for Aggregate {
     ghost view = { λ a. a.sums.entries };
 }
 
-// Moves the entries into a vector that has room for them.
-fn move_rows(sums: &mut IndexMap<Key, Counts>, rows: &mut Vec<(Key, Counts)>)
-    requires empty { rows.old.items ≡ [] }
-    requires room { length sums.old.entries ≤ vec_capacity rows.old }
-    ensures rows { rows.new.items ≡ sums.old.entries }
-    ensures none { sums.new.entries ≡ [] }
-    ensures room { spare sums.old ≤ spare sums.new }
+// Lends the entries in the order of their keys. What is sorted is small.
+fn lend_in_order(
+    sums: &IndexMap<Key, Counts>,
+    alloc: Global,
+) -> Result<Vec<(&Key, &Counts)>, NoMemory>
+    ensures order { IfOk result (λ lent. IsSorted ⟦<Key as Ord>⟧.cmp (keys_in (map deref_pair lent.items))) }
+    ensures same { IfOk result (λ lent. IsPermutation sums.now.entries (map deref_pair lent.items)) }
+    ensures unique { IsUnique ⟦<Key as PartialEq>⟧.eq sums.now }
 {
-    while let Some(row) = sums.pop() {
-        rows.push(row).unwrap();
+    let mut lent = Vec::with_capacity(alloc, sums.len())?;
+    let mut entries = sums.iter();
+    while let Some(entry) = entries.next() {
+        lent.push(entry).unwrap();
     }
-    rows.reverse();
+    lent.sort_unstable_by(|a, b| a.0.cmp(b.0));
+    Ok(lent)
+}
+
+fn copy_rows(lent: Vec<(&Key, &Counts)>, alloc: Global) -> Result<Vec<(Key, Counts)>, NoMemory>
+    ensures { IfOk result (λ rows. rows.items ≡ map deref_pair lent.entry.items) }
+{
+    let mut rows = Vec::with_capacity(alloc, lent.len())?;
+    let mut entries = lent.iter();
+    while let Some(entry) = entries.next() {
+        rows.push((entry.0.copy()?, *entry.1)).unwrap();
+    }
+    Ok(rows)
 }
 
 // Takes the rows out in the order of their keys. The map keeps its room.
@@ -53,9 +69,9 @@ fn take_rows(
     ensures room { spare sums.old ≤ spare sums.new }
 {
     keys_are_ordered();
-    let mut rows = Vec::with_capacity(alloc, sums.len())?;
-    sums.sort_keys()?;
-    move_rows(sums, &mut rows);
+    let lent = lend_in_order(sums, alloc)?;
+    let rows = copy_rows(lent, alloc)?;
+    sums.clear();
     Ok(List::from_vec(rows))
 }
 

@@ -25,5 +25,5 @@ returns-clause-spans c =
     if_some c.note_all.result c.note_all.ensures.noted
     (λ noted element.
     noted element
-    ∙ ap (λ (x : Option Span). option_or x (span_in c.args.version element c.split_at.result.1.now c.args.octets.now c.in-Some.begin)) (nothing_listed 307 element)
+    ∙ ap (λ (x : Option Span). option_or x (span_in c.args.version element c.split_at.result.1.now c.args.octets.now c.in-Some.begin)) (nothing_listed 65 element)
     ∙ whole_spans c.args.version c.args.template.now c.args.octets.now c.split_at.result.0.now c.split_at.result.1.now c.in-Some.begin element front back c.in-Some.ensures.0)

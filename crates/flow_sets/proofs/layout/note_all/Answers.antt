@@ -14,9 +14,9 @@ loop-field-preserved c =
     let is = c.in-Some.ensures.0 in
     let end = ap (λ (s : Span). s.place + s.width) is in
     record {
-      all = ends_one_on c.args.version c.args.fields.now c.args.octets.now c.loop-field.end c.loop-field.field-index _ span c.loop-field-test.true is ∙ c.loop-field.invariant.all;
+      all = rw (c.from.ensures, c.from-in-loop-field.ensures) (ends_one_on c.args.version c.args.fields.now c.args.octets.now c.loop-field.end c.loop-field.field-index _ span c.loop-field-test.true is ∙ c.loop-field.invariant.all);
       within = omega (arith, end, c.in-Some.ensures.1);
       noted = λ element.
-          one_noted c.args.version c.args.fields.now c.args.octets.now c.loop-field.end c.loop-field.field-index _ span c.loop-field.spans c.note.new.spans c.loop-field-test.true is c.note.ensures element
-          ∙ c.loop-field.invariant.noted element;
+          rw (c.from.ensures, c.from-in-loop-field.ensures) (one_noted c.args.version c.args.fields.now c.args.octets.now c.loop-field.end c.loop-field.field-index _ span c.loop-field.spans c.note.new.spans c.loop-field-test.true is c.note.ensures element
+          ∙ c.loop-field.invariant.noted element);
     }
