@@ -29,7 +29,10 @@ domains_same a b = ap (λ (first : Bool). first && (a.version == b.version && a.
 pub keys_same : (a b : TemplateKey) → (key_equality.eq-value).it a b ≡ same_key a b
 keys_same a b = ap (λ (first : Bool). first && a.id == b.id) (domains_same a.domain b.domain)
 
--- the derived test whole
+-- the derived tests whole
+pub domain_tests_same : (domain_equality.eq-value).it ≡ same_domain
+domain_tests_same = λ i a b. domains_same a b i
+
 pub key_tests_same : (key_equality.eq-value).it ≡ same_key
 key_tests_same = λ i a b. keys_same a b i
 
@@ -39,7 +42,7 @@ exact_addresses (V4 a) (V6 b) h = cc h
 exact_addresses (V6 a) (V4 b) h = cc h
 exact_addresses (V6 a) (V6 b) h = ap V6 (eqb-true a b h)
 
-exact_domains : (a b : Domain) → same_domain a b ≡ true → a ≡ b
+pub exact_domains : (a b : Domain) → same_domain a b ≡ true → a ≡ b
 exact_domains a b h =
     let first = and_parts (same_address a.exporter b.exporter) (a.version == b.version && a.id == b.id) h in
     let others = and_parts (a.version == b.version) (a.id == b.id) first.1 in

@@ -1,4 +1,5 @@
 pub mod ChangeLemmas
+pub mod DomainLemmas
 pub mod FieldLemmas
 pub mod RateLemmas
 pub mod StoreLemmas

@@ -1,5 +1,5 @@
 -- The templates that are kept, as a map from keys to templates, and what changes it.
-use Rattle.std.specs.Prelude.{◌≡◌, ◌==◌, ◌&&◌, ◌++◌, Bool, true, false, List, [], ◌∷◌, Option, Some, None, if◌then◌else◌, not, IfSome}
+use Rattle.std.specs.Prelude.{◌≡◌, ◌==◌, ◌&&◌, ◌++◌, Bool, true, false, List, [], ◌∷◌, Option, Some, None, if◌then◌else◌, IfSome}
 use Rattle.std.specs.Bool.{beq}
 use Rattle.std.specs.Map.{lookup}
 use Rattle.acct_types.specs.declared.addr.Addr.{Addr}
@@ -86,7 +86,3 @@ and_change staged change = record { templates = staged.templates ++ change ∷ [
 
 abbrev pub and_rate : StagedChanges → LearnedRate → StagedChanges
 and_rate staged learned = record { templates = staged.templates; rates = staged.rates ++ learned ∷ [] }
-
--- an entry stays where a kind of a domain is withdrawn
-abbrev pub is_kept : Domain → Bool → TemplateKey → Template → Bool
-is_kept domain options key template = not (same_domain domain key.domain && beq template.options options)

@@ -1,5 +1,6 @@
 pub mod Changes
 pub mod Decoding
+pub mod Domains
 pub mod Elements
 pub mod Keys
 pub mod Known

@@ -4,6 +4,7 @@
 
 mod change;
 mod decoded;
+mod domain_templates;
 mod elements;
 mod rate;
 mod reading;

@@ -1,13 +1,14 @@
-ghost use Rattle.std.specs.Prelude.{◌≡◌, ◌+◌, ◌<◌, ◌≤◌, [], true, OnOk, OnErr, IfSome, length};
+ghost use Rattle.std.specs.Prelude.{◌≡◌, ◌+◌, [], true, OnOk, OnErr, IfSome, length};
 ghost use Rattle.std.specs.List.{list_all};
 ghost use Rattle.std.specs.Option.{option_copied};
-ghost use Rattle.indexmap.specs.IndexMap.{spare};
+ghost use Rattle.indexmap.specs.IndexMap.{IsUnique};
 ghost use Rattle.flow_templates.specs.declared.change.TemplateChange.TheVariants as change;
-ghost use Rattle.flow_templates.specs.Changes.{Changes, ChangesAll, found, is_accepted_change, is_kept, key_of};
+ghost use Rattle.flow_templates.specs.Changes.{Changes, ChangesAll, found, is_accepted_change, key_of};
+ghost use Rattle.flow_templates.specs.Domains.{HasRoom, HasRoomFor, HaveRoom, entries_of};
 ghost use Rattle.flow_templates.specs.Known.{LearnsAll};
 ghost use Rattle.flow_templates.specs.Templates.{is_accepted};
 
-use crate::change::is_same_domain;
+use crate::domain_templates::DomainTemplates;
 use crate::{Domain, LearnedRate, OptionStore, Template, TemplateChange, TemplateKey};
 use acct_types::NoMemory;
 use indexmap::IndexMap;
@@ -15,64 +16,123 @@ use std::alloc::Global;
 use std::marker::Model;
 
 /// The templates in force, which contracts see as their entries: what counts is what is found under a key. Each is the
-/// template of an accepted record.
+/// template of an accepted record. They are kept domain by domain, so that what a domain's exporter withdraws takes no
+/// look at another's templates.
 #[derive(Drop)]
 pub struct TemplateStore {
-    templates: IndexMap<TemplateKey, Template>,
+    domains: IndexMap<Domain, DomainTemplates>,
 }
 
 impl Model for TemplateStore {
     ghost use Rattle.std.specs.Prelude.{List as Sequence};
     ghost use Rattle.flow_templates.specs.declared.template.Template.{Template};
     ghost use Rattle.flow_templates.specs.declared.template.TemplateKey.{TemplateKey};
-    ghost use Rattle.flow_templates.specs.Changes.{AreAccepted};
+    ghost use Rattle.flow_templates.specs.Domains.{AreKept, entries_of};
 
     ghost Value = { Sequence (TemplateKey × Template) };
 
-    ghost view = { λ store. store.templates.entries };
+    ghost view = { λ store. entries_of store.domains.entries };
 
-    ghost invariant = { λ store. AreAccepted store.templates.entries };
+    ghost invariant = { λ store. AreKept store.domains.entries };
 }
 
-fn withdraw_kind(templates: &mut IndexMap<TemplateKey, Template>, domain: Domain, options: bool)
-    ensures changed { Changes templates.old.entries templates.new.entries (change.WithdrawAll domain options) }
-    ensures room { spare templates.old ≤ spare templates.new }
+// Makes room for as many more templates of a domain. The templates stay.
+fn make_room(
+    domains: &mut IndexMap<Domain, DomainTemplates>,
+    domain: &Domain,
+    count: usize,
+) -> Result<(), NoMemory>
+    ensures entries { entries_of domains.new.entries ≡ entries_of domains.old.entries }
+    ensures ok { OnOk result (HasRoom domains.new.entries domain.now count) }
+    ensures room { (other : _) (most : _) → HasRoom domains.old.entries other most → HasRoom domains.new.entries other most }
+    ensures unique { IsUnique ⟦<Domain as PartialEq>⟧.eq domains.new }
 {
-    // The length is what says that no key comes twice.
-    let _count = templates.len();
-    templates.retain(
-        |key: &TemplateKey, template: &mut Template| -> bool
-            ensures { (result ≡ is_kept domain options key.now template.old) × (template.new ≡ template.old) }
-        { !(is_same_domain(&domain, &key.domain) && template.options == options) },
-    );
+    // The length is what says that no domain comes twice.
+    let _count = domains.len();
+    if let Some(templates) = domains.get_mut(domain) {
+        return templates.reserve(count);
+    }
+    let mut templates = DomainTemplates::new(*domains.allocator());
+    templates.reserve(count)?;
+    let _none = domains.insert(*domain, templates)?;
+    Ok(())
+}
+
+// Makes room for all templates that the changes put. The templates stay.
+fn make_room_for_all(
+    domains: &mut IndexMap<Domain, DomainTemplates>,
+    changes: &[TemplateChange],
+) -> Result<(), NoMemory>
+    ensures entries { entries_of domains.new.entries ≡ entries_of domains.old.entries }
+    ensures ok { OnOk result (HaveRoom domains.new.entries (length changes.now) changes.now) }
+    ensures unique { IsUnique ⟦<Domain as PartialEq>⟧.eq domains.new }
+{
+    let _count = domains.len();
+    for change in changes {
+        if let TemplateChange::Put(key, _) = change {
+            make_room(domains, &key.domain, changes.len())?;
+        }
+    }
+    Ok(())
+}
+
+fn put(domains: &mut IndexMap<Domain, DomainTemplates>, key: TemplateKey, template: Template)
+    requires { HasRoom domains.old.entries key.domain 1 }
+    ensures changed { Changes (entries_of domains.old.entries) (entries_of domains.new.entries) (change.Put key template) }
+    ensures room { (domain : _) (most : _) → HasRoom domains.old.entries domain (most + 1) → HasRoom domains.new.entries domain most }
+    ensures unique { IsUnique ⟦<Domain as PartialEq>⟧.eq domains.new }
+{
+    let templates = domains.get_mut(&key.domain).unwrap();
+    templates.put(key.id, template);
+}
+
+fn withdraw(domains: &mut IndexMap<Domain, DomainTemplates>, key: TemplateKey)
+    ensures changed { Changes (entries_of domains.old.entries) (entries_of domains.new.entries) (change.Withdraw key) }
+    ensures room { (domain : _) (most : _) → HasRoom domains.old.entries domain (most + 1) → HasRoom domains.new.entries domain most }
+    ensures unique { IsUnique ⟦<Domain as PartialEq>⟧.eq domains.new }
+{
+    let _count = domains.len();
+    if let Some(templates) = domains.get_mut(&key.domain) {
+        templates.withdraw(key.id);
+    }
+}
+
+fn withdraw_all(domains: &mut IndexMap<Domain, DomainTemplates>, domain: Domain, options: bool)
+    ensures changed { Changes (entries_of domains.old.entries) (entries_of domains.new.entries) (change.WithdrawAll domain options) }
+    ensures room { (other : _) (most : _) → HasRoom domains.old.entries other (most + 1) → HasRoom domains.new.entries other most }
+    ensures unique { IsUnique ⟦<Domain as PartialEq>⟧.eq domains.new }
+{
+    let _count = domains.len();
+    if let Some(templates) = domains.get_mut(&domain) {
+        templates.withdraw_all(options);
+    }
 }
 
 // Makes a change for which there is room.
-fn apply(templates: &mut IndexMap<TemplateKey, Template>, change: TemplateChange)
-    requires { 0 < spare templates.old }
-    ensures changed { Changes templates.old.entries templates.new.entries change }
-    ensures room { spare templates.old ≤ spare templates.new + 1 }
+fn apply(domains: &mut IndexMap<Domain, DomainTemplates>, change: TemplateChange)
+    requires { HasRoomFor domains.old.entries 1 change }
+    ensures changed { Changes (entries_of domains.old.entries) (entries_of domains.new.entries) change }
+    ensures room { (domain : _) (most : _) → HasRoom domains.old.entries domain (most + 1) → HasRoom domains.new.entries domain most }
+    ensures unique { IsUnique ⟦<Domain as PartialEq>⟧.eq domains.new }
 {
     match change {
-        TemplateChange::Put(key, template) => {
-            let _replaced = templates.insert(key, template).unwrap();
-        }
-        TemplateChange::Withdraw(key) => {
-            let _withdrawn = templates.swap_remove(&key);
-        }
-        TemplateChange::WithdrawAll(domain, options) => withdraw_kind(templates, domain, options),
+        TemplateChange::Put(key, template) => put(domains, key, template),
+        TemplateChange::Withdraw(key) => withdraw(domains, key),
+        TemplateChange::WithdrawAll(domain, options) => withdraw_all(domains, domain, options),
     }
 }
 
 // Makes changes, in their order, for which there is room.
-fn apply_all(templates: &mut IndexMap<TemplateKey, Template>, changes: Vec<TemplateChange>)
-    requires { length changes.items ≤ spare templates.old }
-    ensures { ChangesAll templates.old.entries templates.new.entries changes.items }
+fn apply_all(domains: &mut IndexMap<Domain, DomainTemplates>, changes: Vec<TemplateChange>)
+    requires { HaveRoom domains.old.entries (length changes.items) changes.items }
+    ensures changed { ChangesAll (entries_of domains.old.entries) (entries_of domains.new.entries) changes.items }
+    ensures unique { IsUnique ⟦<Domain as PartialEq>⟧.eq domains.new }
 {
+    let _count = domains.len();
     let mut rest = changes;
     rest.reverse();
     while let Some(change) = rest.pop() {
-        apply(templates, change);
+        apply(domains, change);
     }
 }
 
@@ -82,7 +142,7 @@ impl TemplateStore {
         ensures { result ≡ [] }
     {
         TemplateStore {
-            templates: IndexMap::new(alloc),
+            domains: IndexMap::new(alloc),
         }
     }
 
@@ -92,8 +152,8 @@ impl TemplateStore {
         ensures ok { OnOk result (Changes self.old self.new (change.Put (key_of domain.now id) template)) }
         ensures err { OnErr result (self.new ≡ self.old) }
     {
-        let key = TemplateKey::new(domain, id);
-        self.templates.insert(key, template)?;
+        make_room(&mut self.domains, domain, 1)?;
+        put(&mut self.domains, TemplateKey::new(domain, id), template);
         Ok(())
     }
 
@@ -101,15 +161,14 @@ impl TemplateStore {
     pub fn withdraw(&mut self, domain: &Domain, id: u16)
         ensures { Changes self.old self.new (change.Withdraw (key_of domain.now id)) }
     {
-        let key = TemplateKey::new(domain, id);
-        let _withdrawn = self.templates.swap_remove(&key);
+        withdraw(&mut self.domains, TemplateKey::new(domain, id));
     }
 
     /// Forgets all options templates of a domain, or all others.
     pub fn withdraw_all(&mut self, domain: &Domain, options: bool)
         ensures { Changes self.old self.new (change.WithdrawAll domain.now options) }
     {
-        withdraw_kind(&mut self.templates, *domain, options);
+        withdraw_all(&mut self.domains, *domain, options);
     }
 
     /// The template of a domain and id, None exactly where none is kept.
@@ -117,8 +176,10 @@ impl TemplateStore {
         ensures found { option_copied result ≡ found self.now (key_of domain.now id) }
         ensures accepted { IfSome result (λ template. is_accepted domain.now.version template.now ≡ true) }
     {
-        let key = TemplateKey::new(domain, id);
-        self.templates.get(&key)
+        let Some(templates) = self.domains.get(domain) else {
+            return None;
+        };
+        templates.find(id)
     }
 
     /// Makes changes, one behind another, and has a store learn rates: all of it, or nothing after NoMemory.
@@ -135,9 +196,9 @@ impl TemplateStore {
         ensures rates_stay { OnErr result (options.new ≡ options.old) }
     {
         // Only these two take memory.
-        self.templates.reserve(changes.len())?;
+        make_room_for_all(&mut self.domains, changes.as_slice())?;
         options.learn_all(learned)?;
-        apply_all(&mut self.templates, changes);
+        apply_all(&mut self.domains, changes);
         Ok(())
     }
 }

@@ -319,6 +319,62 @@ fn the_same_id_elsewhere_is_another_template(rt: HostRuntime) -> Result<(), Fail
 }
 
 #[test]
+fn an_id_of_one_kind_gives_way_to_the_other(rt: HostRuntime) -> Result<(), Fail> {
+    let mut stores = Stores::new(rt.alloc());
+    let template = addresses(rt.alloc())?;
+    let neighbour = addresses(rt.alloc())?;
+    let options = samplers(rt.alloc())?;
+    if !template.is_accepted(9) || !neighbour.is_accepted(9) || !options.is_accepted(9) {
+        return Err("not accepted".into());
+    }
+    let store = &mut stores.templates;
+    store.put(&domain(1), 300, template)?;
+    store.put(&domain(1), 301, neighbour)?;
+    store.put(&domain(1), 300, options)?;
+    assert!(rt; store.find(&domain(1), 300).is_some_and(|kept| kept.options));
+    store.withdraw_all(&domain(1), false);
+    assert!(rt; store.find(&domain(1), 300).is_some_and(|kept| kept.options));
+    assert!(rt; store.find(&domain(1), 301).is_none());
+    store.withdraw_all(&domain(1), true);
+    assert!(rt; store.find(&domain(1), 300).is_none());
+    Ok(())
+}
+
+#[test]
+fn many_templates_of_a_domain_are_withdrawn_and_put_again(rt: HostRuntime) -> Result<(), Fail> {
+    let mut stores = Stores::new(rt.alloc());
+    for id in 256..356 {
+        let template = addresses(rt.alloc())?;
+        if !template.is_accepted(9) {
+            return Err("not accepted".into());
+        }
+        stores
+            .templates
+            .put(&domain(u32::from(id % 2)), id, template)?;
+    }
+    stores.templates.withdraw(&domain(0), 300);
+    stores.templates.withdraw_all(&domain(1), false);
+    for id in 256..356 {
+        let found = stores.templates.find(&domain(u32::from(id % 2)), id);
+        assert_eq!(rt; found.is_some(), id % 2 == 0 && id != 300);
+    }
+    let mut staged = Staged::new(rt.alloc());
+    for id in 256..356 {
+        let template = addresses(rt.alloc())?;
+        if !template.is_accepted(9) {
+            return Err("not accepted".into());
+        }
+        staged.put(&domain(u32::from(id % 2)), id, template)?;
+    }
+    staged.commit(&mut stores)?;
+    for id in 256..356 {
+        let found = stores.templates.find(&domain(u32::from(id % 2)), id);
+        assert!(rt; found.is_some());
+    }
+    Ok(())
+}
+
+#[test]
 fn staged_changes_wait_for_the_commit(rt: HostRuntime) -> Result<(), Fail> {
     let mut stores = Stores::new(rt.alloc());
     let mut staged = Staged::new(rt.alloc());
