@@ -1,5 +1,6 @@
 pub mod ChangeLemmas
 pub mod DomainLemmas
 pub mod FieldLemmas
+pub mod NotedLemmas
 pub mod RateLemmas
 pub mod StoreLemmas

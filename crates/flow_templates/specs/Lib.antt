@@ -4,4 +4,5 @@ pub mod Domains
 pub mod Elements
 pub mod Keys
 pub mod Known
+pub mod Noted
 pub mod Templates

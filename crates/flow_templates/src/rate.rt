@@ -1,8 +1,7 @@
 ghost use Rattle.std.specs.Prelude.{◌≡◌, ◌∷◌, ◌≤◌, [], length, OnOk, OnErr};
-ghost use Rattle.std.specs.Option.{option_copied};
 ghost use Rattle.indexmap.specs.IndexMap.{spare};
 ghost use Rattle.flow_templates.specs.Keys.{rate_key_of};
-ghost use Rattle.flow_templates.specs.Known.{LearnsAll, RatesAddUp, learned_of, rate_found, rate_learned, same_rate_key};
+ghost use Rattle.flow_templates.specs.Known.{LearnsAll, RatesAddUp, learned_of, rate_found};
 
 use crate::Domain;
 use acct_types::NoMemory;
@@ -34,26 +33,6 @@ impl RateKey {
 pub struct LearnedRate {
     pub key: RateKey,
     pub rate: u32,
-}
-
-#[tactic(auto, using(crate::proofs::RateLemmas::rate_keys_same))]
-fn is_same_key(a: &RateKey, b: &RateKey) -> bool
-    ensures { result ≡ same_rate_key a.now b.now }
-{
-    *a == *b
-}
-
-impl LearnedRate {
-    /// The rate under a key after this one was learned, where `before` was there.
-    pub(crate) fn after(&self, key: &RateKey, before: Option<u32>) -> Option<u32>
-        ensures { result ≡ rate_learned self.now key.now before }
-    {
-        if is_same_key(&self.key, key) {
-            Some(self.rate)
-        } else {
-            before
-        }
-    }
 }
 
 /// The sampling rates that were learned last, which contracts see as their entries: what counts is what is found under a key.

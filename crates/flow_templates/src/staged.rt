@@ -5,10 +5,11 @@ ghost use Rattle.flow_templates.specs.Changes.{and_change, and_rate, key_of, not
 ghost use Rattle.flow_templates.specs.Known.{known_after, known_in, learned_of, nothing_known, rate_key_of};
 ghost use Rattle.flow_templates.specs.Templates.{is_accepted};
 
+use crate::noted::{NotedChanges, NotedRates};
 use crate::{
     Domain, LearnedRate, OptionStore, RateKey, Template, TemplateChange, TemplateKey, TemplateStore,
 };
-use acct_types::{List, NoMemory};
+use acct_types::NoMemory;
 use std::alloc::Global;
 use std::marker::Model;
 
@@ -37,8 +38,8 @@ impl Stores {
 /// them as lists in their order.
 #[derive(Drop)]
 pub struct Staged {
-    changes: List<TemplateChange>,
-    rates: List<LearnedRate>,
+    changes: NotedChanges,
+    rates: NotedRates,
 }
 
 impl Model for Staged {
@@ -59,8 +60,8 @@ impl Staged {
         ensures { result ≡ nothing_staged }
     {
         Staged {
-            changes: List::new(alloc),
-            rates: List::new(alloc),
+            changes: NotedChanges::new(alloc),
+            rates: NotedRates::new(alloc),
         }
     }
 
@@ -119,11 +120,7 @@ impl Staged {
         ensures accepted { IfSome result (λ template. is_accepted domain.now.version template.now ≡ true) }
     {
         let key = TemplateKey::new(domain, id);
-        let mut found = stores.templates.find(domain, id);
-        for change in self.changes.as_slice() {
-            found = change.after(&key, found);
-        }
-        found
+        self.changes.find(&key, stores.templates.find(domain, id))
     }
 
     /// The sampling rate that the stores would have after these changes.
@@ -131,11 +128,7 @@ impl Staged {
         ensures { result ≡ (known_after (known_in stores.now) self.now).rate (rate_key_of domain.now sampler) }
     {
         let key = RateKey::new(domain, sampler);
-        let mut rate = stores.options.rate(domain, sampler);
-        for learned in self.rates.as_slice() {
-            rate = learned.after(&key, rate);
-        }
-        rate
+        self.rates.rate(&key, stores.options.rate(domain, sampler))
     }
 
     /// Makes the changes in the stores, one behind another: all of them, or none after NoMemory.

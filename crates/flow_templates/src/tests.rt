@@ -1,4 +1,5 @@
-ghost use Rattle.std.specs.Prelude.{◌≡◌};
+ghost use Rattle.std.specs.Prelude.{◌≡◌, true, IfOk};
+ghost use Rattle.flow_templates.specs.Templates.{is_accepted};
 
 use crate::{
     Domain, Staged, Stores, Template, TemplateFault, TemplateTurn, TemplateWhat,
@@ -417,6 +418,194 @@ fn a_staged_withdrawal_hides_what_is_kept_and_staged(rt: HostRuntime) -> Result<
     staged.commit(&mut stores)?;
     assert!(rt; stores.templates.find(&domain(1), 300).is_none());
     assert!(rt; stores.templates.find(&domain(1), 302).is_some());
+    Ok(())
+}
+
+// A change of one id, in a domain, of options templates or of others.
+#[derive(Clone, Copy)]
+enum Given {
+    Put(u32, bool),
+    Withdraw(u32),
+    WithdrawAll(u32, bool),
+}
+
+// What stores keep under the id in the first domain, the changes of a datagram, and what is found there after them: whether it is
+// an options template, None where there is none.
+struct Order {
+    name: &'static str,
+    kept: Option<bool>,
+    changes: &'static [Given],
+    want: Option<bool>,
+}
+
+static ORDERS: [Order; 17] = [
+    Order {
+        name: "no change",
+        kept: Some(true),
+        changes: &[],
+        want: Some(true),
+    },
+    Order {
+        name: "put",
+        kept: None,
+        changes: &[Given::Put(1, false)],
+        want: Some(false),
+    },
+    Order {
+        name: "put twice",
+        kept: None,
+        changes: &[Given::Put(1, false), Given::Put(1, true)],
+        want: Some(true),
+    },
+    Order {
+        name: "put, then withdrawn",
+        kept: None,
+        changes: &[Given::Put(1, true), Given::Withdraw(1)],
+        want: None,
+    },
+    Order {
+        name: "withdrawn, then put",
+        kept: Some(false),
+        changes: &[Given::Withdraw(1), Given::Put(1, true)],
+        want: Some(true),
+    },
+    Order {
+        name: "put, then all of its kind withdrawn",
+        kept: None,
+        changes: &[Given::Put(1, false), Given::WithdrawAll(1, false)],
+        want: None,
+    },
+    Order {
+        name: "all of its kind withdrawn, then put",
+        kept: Some(false),
+        changes: &[Given::WithdrawAll(1, false), Given::Put(1, false)],
+        want: Some(false),
+    },
+    Order {
+        name: "put, then all of the other kind withdrawn",
+        kept: None,
+        changes: &[Given::Put(1, false), Given::WithdrawAll(1, true)],
+        want: Some(false),
+    },
+    Order {
+        name: "all of the other kind withdrawn",
+        kept: Some(true),
+        changes: &[Given::WithdrawAll(1, false)],
+        want: Some(true),
+    },
+    Order {
+        name: "all of its kind withdrawn",
+        kept: Some(true),
+        changes: &[Given::WithdrawAll(1, true)],
+        want: None,
+    },
+    Order {
+        name: "put of the other kind, then all of the earlier kind withdrawn",
+        kept: Some(false),
+        changes: &[Given::Put(1, true), Given::WithdrawAll(1, false)],
+        want: Some(true),
+    },
+    Order {
+        name: "put of the other kind, then all of that kind withdrawn",
+        kept: Some(false),
+        changes: &[Given::Put(1, true), Given::WithdrawAll(1, true)],
+        want: None,
+    },
+    Order {
+        name: "all of a kind withdrawn on both sides of another put",
+        kept: None,
+        changes: &[
+            Given::Put(1, false),
+            Given::WithdrawAll(1, false),
+            Given::Put(1, true),
+            Given::WithdrawAll(1, false),
+        ],
+        want: Some(true),
+    },
+    Order {
+        name: "all of a kind withdrawn on both sides of a put",
+        kept: None,
+        changes: &[
+            Given::WithdrawAll(1, true),
+            Given::Put(1, true),
+            Given::WithdrawAll(1, true),
+        ],
+        want: None,
+    },
+    Order {
+        name: "withdrawn, then all of its kind withdrawn",
+        kept: Some(false),
+        changes: &[Given::Withdraw(1), Given::WithdrawAll(1, false)],
+        want: None,
+    },
+    Order {
+        name: "changes of another domain",
+        kept: Some(false),
+        changes: &[
+            Given::Put(2, true),
+            Given::Withdraw(2),
+            Given::WithdrawAll(2, false),
+        ],
+        want: Some(false),
+    },
+    Order {
+        name: "put, then all of another domain withdrawn",
+        kept: None,
+        changes: &[
+            Given::Put(1, false),
+            Given::WithdrawAll(2, false),
+            Given::WithdrawAll(2, true),
+        ],
+        want: Some(false),
+    },
+];
+
+fn accepted(alloc: Global, options: bool) -> Result<Template, Fail>
+    ensures { IfOk result (λ template. is_accepted 9 template ≡ true) }
+{
+    let template = if options {
+        samplers(alloc)?
+    } else {
+        addresses(alloc)?
+    };
+    if !template.is_accepted(9) {
+        return Err("not accepted".into());
+    }
+    Ok(template)
+}
+
+fn stage(staged: &mut Staged, alloc: Global, change: Given) -> Result<(), Fail> {
+    match change {
+        Given::Put(id, options) => {
+            let template = accepted(alloc, options)?;
+            staged.put(&domain(id), 300, template)?;
+        }
+        Given::Withdraw(id) => staged.withdraw(&domain(id), 300)?,
+        Given::WithdrawAll(id, options) => staged.withdraw_all(&domain(id), options)?,
+    }
+    Ok(())
+}
+
+#[test]
+fn staged_changes_count_in_their_order(rt: HostRuntime) -> Result<(), Fail> {
+    for order in &ORDERS {
+        let mut stores = Stores::new(rt.alloc());
+        if let Some(options) = order.kept {
+            let kept = accepted(rt.alloc(), options)?;
+            stores.templates.put(&domain(1), 300, kept)?;
+        }
+        let mut staged = Staged::new(rt.alloc());
+        for change in order.changes {
+            stage(&mut staged, rt.alloc(), *change)?;
+        }
+        let found = staged.find(&stores, &domain(1), 300);
+        let found = found.map(|template| template.options);
+        assert_eq!(rt; (order.name, found), (order.name, order.want));
+        staged.commit(&mut stores)?;
+        let kept = stores.templates.find(&domain(1), 300);
+        let kept = kept.map(|template| template.options);
+        assert_eq!(rt; (order.name, kept), (order.name, order.want));
+    }
     Ok(())
 }
 
