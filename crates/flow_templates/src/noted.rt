@@ -122,6 +122,10 @@ impl NotedChanges {
     ) -> Option<&'a Template>
         ensures { option_copied result ≡ after_all self.now key.now (option_copied before.entry) }
     {
+        // Most datagrams change nothing.
+        if self.changes.is_empty() {
+            return before;
+        }
         let place = self.last.get(&Subject::One(*key)).copied();
         let template = put_or(self.changes.as_slice(), place, before)?;
         let kind = Subject::Kind(key.domain, template.options);
@@ -187,6 +191,9 @@ impl NotedRates {
     pub(crate) fn rate(&self, key: &RateKey, before: Option<u32>) -> Option<u32>
         ensures { result ≡ rate_after self.now key.now before }
     {
+        if self.rates.is_empty() {
+            return before;
+        }
         self.last.get(key).copied().or(before)
     }
 
