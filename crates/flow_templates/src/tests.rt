@@ -586,25 +586,29 @@ fn stage(staged: &mut Staged, alloc: Global, change: Given) -> Result<(), Fail> 
     Ok(())
 }
 
+// The kind that is found under the id while the changes are staged, and once they are committed.
+fn found_in(order: &Order, alloc: Global) -> Result<(Option<bool>, Option<bool>), Fail> {
+    let mut stores = Stores::new(alloc);
+    if let Some(options) = order.kept {
+        let kept = accepted(alloc, options)?;
+        stores.templates.put(&domain(1), 300, kept)?;
+    }
+    let mut staged = Staged::new(alloc);
+    for change in order.changes {
+        stage(&mut staged, alloc, *change)?;
+    }
+    let found = staged.find(&stores, &domain(1), 300);
+    let found = found.map(|template| template.options);
+    staged.commit(&mut stores)?;
+    let kept = stores.templates.find(&domain(1), 300);
+    Ok((found, kept.map(|template| template.options)))
+}
+
 #[test]
 fn staged_changes_count_in_their_order(rt: HostRuntime) -> Result<(), Fail> {
     for order in &ORDERS {
-        let mut stores = Stores::new(rt.alloc());
-        if let Some(options) = order.kept {
-            let kept = accepted(rt.alloc(), options)?;
-            stores.templates.put(&domain(1), 300, kept)?;
-        }
-        let mut staged = Staged::new(rt.alloc());
-        for change in order.changes {
-            stage(&mut staged, rt.alloc(), *change)?;
-        }
-        let found = staged.find(&stores, &domain(1), 300);
-        let found = found.map(|template| template.options);
-        assert_eq!(rt; (order.name, found), (order.name, order.want));
-        staged.commit(&mut stores)?;
-        let kept = stores.templates.find(&domain(1), 300);
-        let kept = kept.map(|template| template.options);
-        assert_eq!(rt; (order.name, kept), (order.name, order.want));
+        let found = found_in(order, rt.alloc())?;
+        assert_eq!(rt; (order.name, found), (order.name, (order.want, order.want)));
     }
     Ok(())
 }
