@@ -20,6 +20,10 @@ const VARIABLE: [u8; 20] = [
     1, 0, 0, 3, 0, 8, 0, 4, 128, 100, 255, 255, 0, 0, 0, 9, 3, 231, 255, 255,
 ];
 
+const OPTIONS: bool = true;
+
+const OTHERS: bool = false;
+
 fn domain(id: u32) -> Domain
     ensures { result.version ≡ 9 }
 {
@@ -64,6 +68,28 @@ fn addresses(alloc: Global) -> Result<Template, Fail> {
 fn samplers(alloc: Global) -> Result<Template, Fail> {
     let turn = read_options_template(alloc, 9, &SAMPLERS).map_err(|_| "refused")?;
     defined(turn)
+}
+
+// An options template, or another.
+fn accepted(alloc: Global, options: bool) -> Result<Template, Fail>
+    ensures { IfOk result (λ template. is_accepted 9 template ≡ true) }
+{
+    let template = if options {
+        samplers(alloc)?
+    } else {
+        addresses(alloc)?
+    };
+    if !template.is_accepted(9) {
+        return Err("not accepted".into());
+    }
+    Ok(template)
+}
+
+fn kind_of(found: Option<&Template>) -> Option<bool> {
+    match found {
+        Some(template) => Some(template.options),
+        None => None,
+    }
 }
 
 #[test]
@@ -268,110 +294,89 @@ fn any_width_will_do_for_an_element_that_is_not_read(rt: HostRuntime) {
 #[test]
 fn an_id_is_one_of_its_domain(rt: HostRuntime) -> Result<(), Fail> {
     let mut stores = Stores::new(rt.alloc());
-    let template = addresses(rt.alloc())?;
-    let options = samplers(rt.alloc())?;
-    if !template.is_accepted(9) || !options.is_accepted(9) {
-        return Err("not accepted".into());
-    }
     let store = &mut stores.templates;
-    store.put(&domain(1), 300, template)?;
-    store.put(&domain(2), 300, options)?;
-    assert!(rt;
-        store
-            .find(&domain(1), 300)
-            .is_some_and(|kept| !kept.options)
-    );
-    assert!(rt; store.find(&domain(2), 300).is_some_and(|kept| kept.options));
-    assert!(rt; store.find(&domain(1), 301).is_none());
-    store.withdraw_all(&domain(2), false);
-    assert!(rt; store.find(&domain(2), 300).is_some());
-    store.withdraw_all(&domain(2), true);
-    assert!(rt; store.find(&domain(2), 300).is_none());
+    store.put(&domain(1), 300, accepted(rt.alloc(), OTHERS)?)?;
+    store.put(&domain(2), 300, accepted(rt.alloc(), OPTIONS)?)?;
+    assert_eq!(rt; kind_of(store.find(&domain(1), 300)), Some(OTHERS));
+    assert_eq!(rt; kind_of(store.find(&domain(2), 300)), Some(OPTIONS));
+    assert_eq!(rt; kind_of(store.find(&domain(1), 301)), None);
+    store.withdraw_all(&domain(2), OTHERS);
+    assert_eq!(rt; kind_of(store.find(&domain(2), 300)), Some(OPTIONS));
+    store.withdraw_all(&domain(2), OPTIONS);
+    assert_eq!(rt; kind_of(store.find(&domain(2), 300)), None);
     store.withdraw(&domain(1), 300);
-    assert!(rt; store.find(&domain(1), 300).is_none());
+    assert_eq!(rt; kind_of(store.find(&domain(1), 300)), None);
     Ok(())
 }
 
 #[test]
 fn the_same_id_elsewhere_is_another_template(rt: HostRuntime) -> Result<(), Fail> {
     let mut stores = Stores::new(rt.alloc());
-    let template = addresses(rt.alloc())?;
+    let store = &mut stores.templates;
     let other = addresses(rt.alloc())?;
-    let options = samplers(rt.alloc())?;
-    if !template.is_accepted(9) || !other.is_accepted(10) || !options.is_accepted(9) {
+    if !other.is_accepted(10) {
         return Err("not accepted".into());
     }
-    let store = &mut stores.templates;
-    store.put(&other_exporter(), 300, options)?;
-    assert!(rt; store.find(&domain(1), 300).is_none());
     store.put(&other_version(), 300, other)?;
-    assert!(rt; store.find(&domain(1), 300).is_none());
-    store.put(&domain(1), 300, template)?;
-    assert!(rt;
-        store
-            .find(&other_exporter(), 300)
-            .is_some_and(|kept| kept.options)
-    );
+    store.put(&other_exporter(), 300, accepted(rt.alloc(), OPTIONS)?)?;
+    assert_eq!(rt; kind_of(store.find(&domain(1), 300)), None);
+    store.put(&domain(1), 300, accepted(rt.alloc(), OTHERS)?)?;
+    assert_eq!(rt; kind_of(store.find(&other_exporter(), 300)), Some(OPTIONS));
     store.withdraw(&other_version(), 300);
-    store.withdraw_all(&other_exporter(), true);
-    assert!(rt; store.find(&other_exporter(), 300).is_none());
-    assert!(rt; store.find(&domain(1), 300).is_some());
+    store.withdraw_all(&other_exporter(), OPTIONS);
+    assert_eq!(rt; kind_of(store.find(&other_version(), 300)), None);
+    assert_eq!(rt; kind_of(store.find(&other_exporter(), 300)), None);
+    assert_eq!(rt; kind_of(store.find(&domain(1), 300)), Some(OTHERS));
     Ok(())
 }
 
 #[test]
 fn an_id_of_one_kind_gives_way_to_the_other(rt: HostRuntime) -> Result<(), Fail> {
     let mut stores = Stores::new(rt.alloc());
-    let template = addresses(rt.alloc())?;
-    let neighbour = addresses(rt.alloc())?;
-    let options = samplers(rt.alloc())?;
-    if !template.is_accepted(9) || !neighbour.is_accepted(9) || !options.is_accepted(9) {
-        return Err("not accepted".into());
-    }
     let store = &mut stores.templates;
-    store.put(&domain(1), 300, template)?;
-    store.put(&domain(1), 301, neighbour)?;
-    store.put(&domain(1), 300, options)?;
-    assert!(rt; store.find(&domain(1), 300).is_some_and(|kept| kept.options));
-    store.withdraw_all(&domain(1), false);
-    assert!(rt; store.find(&domain(1), 300).is_some_and(|kept| kept.options));
-    assert!(rt; store.find(&domain(1), 301).is_none());
-    store.withdraw_all(&domain(1), true);
-    assert!(rt; store.find(&domain(1), 300).is_none());
+    store.put(&domain(1), 300, accepted(rt.alloc(), OTHERS)?)?;
+    store.put(&domain(1), 301, accepted(rt.alloc(), OTHERS)?)?;
+    store.put(&domain(1), 300, accepted(rt.alloc(), OPTIONS)?)?;
+    assert_eq!(rt; kind_of(store.find(&domain(1), 300)), Some(OPTIONS));
+    store.withdraw_all(&domain(1), OTHERS);
+    assert_eq!(rt; kind_of(store.find(&domain(1), 300)), Some(OPTIONS));
+    assert_eq!(rt; kind_of(store.find(&domain(1), 301)), None);
+    store.withdraw_all(&domain(1), OPTIONS);
+    assert_eq!(rt; kind_of(store.find(&domain(1), 300)), None);
     Ok(())
+}
+
+// The templates with the ids 256 to 355, of which the even ones are in domain 0 and the odd ones in domain 1.
+fn put_many(stores: &mut Stores, alloc: Global) -> Result<(), Fail> {
+    let mut staged = Staged::new(alloc);
+    for id in 256..356 {
+        staged.put(&domain(u32::from(id % 2)), id, accepted(alloc, OTHERS)?)?;
+    }
+    staged.commit(stores)?;
+    Ok(())
+}
+
+fn count_of(stores: &Stores, number: u32) -> u32 {
+    let mut count = 0u32;
+    for id in 256..356 {
+        if stores.templates.find(&domain(number), id).is_some() {
+            count = count.saturating_add(1);
+        }
+    }
+    count
 }
 
 #[test]
 fn many_templates_of_a_domain_are_withdrawn_and_put_again(rt: HostRuntime) -> Result<(), Fail> {
     let mut stores = Stores::new(rt.alloc());
-    for id in 256..356 {
-        let template = addresses(rt.alloc())?;
-        if !template.is_accepted(9) {
-            return Err("not accepted".into());
-        }
-        stores
-            .templates
-            .put(&domain(u32::from(id % 2)), id, template)?;
-    }
+    put_many(&mut stores, rt.alloc())?;
     stores.templates.withdraw(&domain(0), 300);
-    stores.templates.withdraw_all(&domain(1), false);
-    for id in 256..356 {
-        let found = stores.templates.find(&domain(u32::from(id % 2)), id);
-        assert_eq!(rt; found.is_some(), id % 2 == 0 && id != 300);
-    }
-    let mut staged = Staged::new(rt.alloc());
-    for id in 256..356 {
-        let template = addresses(rt.alloc())?;
-        if !template.is_accepted(9) {
-            return Err("not accepted".into());
-        }
-        staged.put(&domain(u32::from(id % 2)), id, template)?;
-    }
-    staged.commit(&mut stores)?;
-    for id in 256..356 {
-        let found = stores.templates.find(&domain(u32::from(id % 2)), id);
-        assert!(rt; found.is_some());
-    }
+    stores.templates.withdraw_all(&domain(1), OTHERS);
+    assert_eq!(rt; count_of(&stores, 0), 49);
+    assert_eq!(rt; count_of(&stores, 1), 0);
+    put_many(&mut stores, rt.alloc())?;
+    assert_eq!(rt; count_of(&stores, 0), 50);
+    assert_eq!(rt; count_of(&stores, 1), 50);
     Ok(())
 }
 
@@ -379,21 +384,22 @@ fn many_templates_of_a_domain_are_withdrawn_and_put_again(rt: HostRuntime) -> Re
 fn staged_changes_wait_for_the_commit(rt: HostRuntime) -> Result<(), Fail> {
     let mut stores = Stores::new(rt.alloc());
     let mut staged = Staged::new(rt.alloc());
-    let template = addresses(rt.alloc())?;
-    let options = samplers(rt.alloc())?;
-    if !template.is_accepted(9) || !options.is_accepted(9) {
-        return Err("not accepted".into());
-    }
-    staged.put(&domain(1), 300, template)?;
-    staged.put(&domain(1), 301, options)?;
+    staged.put(&domain(1), 300, accepted(rt.alloc(), OTHERS)?)?;
+    staged.put(&domain(1), 301, accepted(rt.alloc(), OPTIONS)?)?;
     staged.withdraw(&domain(2), 300)?;
-    staged.withdraw_all(&domain(1), true)?;
-    assert!(rt; staged.find(&stores, &domain(1), 300).is_some());
-    assert!(rt; staged.find(&stores, &domain(1), 301).is_none());
-    assert!(rt; stores.templates.find(&domain(1), 300).is_none());
+    staged.withdraw_all(&domain(1), OPTIONS)?;
+    assert_eq!(rt;
+        kind_of(staged.find(&stores, &domain(1), 300)),
+        Some(OTHERS)
+    );
+    assert_eq!(rt; kind_of(staged.find(&stores, &domain(1), 301)), None);
+    assert_eq!(rt; kind_of(stores.templates.find(&domain(1), 300)), None);
     staged.commit(&mut stores)?;
-    assert!(rt; stores.templates.find(&domain(1), 300).is_some());
-    assert!(rt; stores.templates.find(&domain(1), 301).is_none());
+    assert_eq!(rt;
+        kind_of(stores.templates.find(&domain(1), 300)),
+        Some(OTHERS)
+    );
+    assert_eq!(rt; kind_of(stores.templates.find(&domain(1), 301)), None);
     Ok(())
 }
 
@@ -401,177 +407,34 @@ fn staged_changes_wait_for_the_commit(rt: HostRuntime) -> Result<(), Fail> {
 fn a_staged_withdrawal_hides_what_is_kept_and_staged(rt: HostRuntime) -> Result<(), Fail> {
     let mut stores = Stores::new(rt.alloc());
     let mut staged = Staged::new(rt.alloc());
-    let kept = addresses(rt.alloc())?;
-    let template = addresses(rt.alloc())?;
-    let options = samplers(rt.alloc())?;
-    if !kept.is_accepted(9) || !template.is_accepted(9) || !options.is_accepted(9) {
-        return Err("not accepted".into());
-    }
-    stores.templates.put(&domain(1), 300, kept)?;
-    staged.put(&domain(1), 301, template)?;
-    staged.put(&domain(1), 302, options)?;
+    stores
+        .templates
+        .put(&domain(1), 300, accepted(rt.alloc(), OTHERS)?)?;
+    staged.put(&domain(1), 301, accepted(rt.alloc(), OTHERS)?)?;
+    staged.put(&domain(1), 302, accepted(rt.alloc(), OPTIONS)?)?;
     staged.withdraw(&domain(1), 301)?;
-    assert!(rt; staged.find(&stores, &domain(1), 301).is_none());
-    staged.withdraw_all(&domain(1), false)?;
-    assert!(rt; staged.find(&stores, &domain(1), 300).is_none());
-    assert!(rt; staged.find(&stores, &domain(1), 302).is_some());
+    assert_eq!(rt; kind_of(staged.find(&stores, &domain(1), 301)), None);
+    staged.withdraw_all(&domain(1), OTHERS)?;
+    assert_eq!(rt; kind_of(staged.find(&stores, &domain(1), 300)), None);
+    assert_eq!(rt;
+        kind_of(staged.find(&stores, &domain(1), 302)),
+        Some(OPTIONS)
+    );
     staged.commit(&mut stores)?;
-    assert!(rt; stores.templates.find(&domain(1), 300).is_none());
-    assert!(rt; stores.templates.find(&domain(1), 302).is_some());
+    assert_eq!(rt; kind_of(stores.templates.find(&domain(1), 300)), None);
+    assert_eq!(rt;
+        kind_of(stores.templates.find(&domain(1), 302)),
+        Some(OPTIONS)
+    );
     Ok(())
 }
 
-// A change of one id, in a domain, of options templates or of others.
+// A change of the template with the id 300 in the domain with this number, or of all of a kind there.
 #[derive(Clone, Copy)]
 enum Given {
     Put(u32, bool),
     Withdraw(u32),
     WithdrawAll(u32, bool),
-}
-
-// What stores keep under the id in the first domain, the changes of a datagram, and what is found there after them: whether it is
-// an options template, None where there is none.
-struct Order {
-    name: &'static str,
-    kept: Option<bool>,
-    changes: &'static [Given],
-    want: Option<bool>,
-}
-
-static ORDERS: [Order; 17] = [
-    Order {
-        name: "no change",
-        kept: Some(true),
-        changes: &[],
-        want: Some(true),
-    },
-    Order {
-        name: "put",
-        kept: None,
-        changes: &[Given::Put(1, false)],
-        want: Some(false),
-    },
-    Order {
-        name: "put twice",
-        kept: None,
-        changes: &[Given::Put(1, false), Given::Put(1, true)],
-        want: Some(true),
-    },
-    Order {
-        name: "put, then withdrawn",
-        kept: None,
-        changes: &[Given::Put(1, true), Given::Withdraw(1)],
-        want: None,
-    },
-    Order {
-        name: "withdrawn, then put",
-        kept: Some(false),
-        changes: &[Given::Withdraw(1), Given::Put(1, true)],
-        want: Some(true),
-    },
-    Order {
-        name: "put, then all of its kind withdrawn",
-        kept: None,
-        changes: &[Given::Put(1, false), Given::WithdrawAll(1, false)],
-        want: None,
-    },
-    Order {
-        name: "all of its kind withdrawn, then put",
-        kept: Some(false),
-        changes: &[Given::WithdrawAll(1, false), Given::Put(1, false)],
-        want: Some(false),
-    },
-    Order {
-        name: "put, then all of the other kind withdrawn",
-        kept: None,
-        changes: &[Given::Put(1, false), Given::WithdrawAll(1, true)],
-        want: Some(false),
-    },
-    Order {
-        name: "all of the other kind withdrawn",
-        kept: Some(true),
-        changes: &[Given::WithdrawAll(1, false)],
-        want: Some(true),
-    },
-    Order {
-        name: "all of its kind withdrawn",
-        kept: Some(true),
-        changes: &[Given::WithdrawAll(1, true)],
-        want: None,
-    },
-    Order {
-        name: "put of the other kind, then all of the earlier kind withdrawn",
-        kept: Some(false),
-        changes: &[Given::Put(1, true), Given::WithdrawAll(1, false)],
-        want: Some(true),
-    },
-    Order {
-        name: "put of the other kind, then all of that kind withdrawn",
-        kept: Some(false),
-        changes: &[Given::Put(1, true), Given::WithdrawAll(1, true)],
-        want: None,
-    },
-    Order {
-        name: "all of a kind withdrawn on both sides of another put",
-        kept: None,
-        changes: &[
-            Given::Put(1, false),
-            Given::WithdrawAll(1, false),
-            Given::Put(1, true),
-            Given::WithdrawAll(1, false),
-        ],
-        want: Some(true),
-    },
-    Order {
-        name: "all of a kind withdrawn on both sides of a put",
-        kept: None,
-        changes: &[
-            Given::WithdrawAll(1, true),
-            Given::Put(1, true),
-            Given::WithdrawAll(1, true),
-        ],
-        want: None,
-    },
-    Order {
-        name: "withdrawn, then all of its kind withdrawn",
-        kept: Some(false),
-        changes: &[Given::Withdraw(1), Given::WithdrawAll(1, false)],
-        want: None,
-    },
-    Order {
-        name: "changes of another domain",
-        kept: Some(false),
-        changes: &[
-            Given::Put(2, true),
-            Given::Withdraw(2),
-            Given::WithdrawAll(2, false),
-        ],
-        want: Some(false),
-    },
-    Order {
-        name: "put, then all of another domain withdrawn",
-        kept: None,
-        changes: &[
-            Given::Put(1, false),
-            Given::WithdrawAll(2, false),
-            Given::WithdrawAll(2, true),
-        ],
-        want: Some(false),
-    },
-];
-
-fn accepted(alloc: Global, options: bool) -> Result<Template, Fail>
-    ensures { IfOk result (λ template. is_accepted 9 template ≡ true) }
-{
-    let template = if options {
-        samplers(alloc)?
-    } else {
-        addresses(alloc)?
-    };
-    if !template.is_accepted(9) {
-        return Err("not accepted".into());
-    }
-    Ok(template)
 }
 
 fn stage(staged: &mut Staged, alloc: Global, change: Given) -> Result<(), Fail> {
@@ -586,30 +449,105 @@ fn stage(staged: &mut Staged, alloc: Global, change: Given) -> Result<(), Fail> 
     Ok(())
 }
 
-// The kind that is found under the id while the changes are staged, and once they are committed.
-fn found_in(order: &Order, alloc: Global) -> Result<(Option<bool>, Option<bool>), Fail> {
+// The kind of the template that is found in domain 1 after the changes of a datagram, where one of a kind was kept: the same while
+// they are staged and once they are committed.
+fn left_by(alloc: Global, kept: Option<bool>, changes: &[Given]) -> Result<Option<bool>, Fail> {
     let mut stores = Stores::new(alloc);
-    if let Some(options) = order.kept {
-        let kept = accepted(alloc, options)?;
-        stores.templates.put(&domain(1), 300, kept)?;
+    if let Some(options) = kept {
+        let template = accepted(alloc, options)?;
+        stores.templates.put(&domain(1), 300, template)?;
     }
     let mut staged = Staged::new(alloc);
-    for change in order.changes {
+    for change in changes {
         stage(&mut staged, alloc, *change)?;
     }
-    let found = staged.find(&stores, &domain(1), 300);
-    let found = found.map(|template| template.options);
+    let found = kind_of(staged.find(&stores, &domain(1), 300));
     staged.commit(&mut stores)?;
-    let kept = stores.templates.find(&domain(1), 300);
-    Ok((found, kept.map(|template| template.options)))
+    let left = kind_of(stores.templates.find(&domain(1), 300));
+    if found != left {
+        return Err("the commit leaves something else than was staged".into());
+    }
+    Ok(left)
 }
 
 #[test]
-fn staged_changes_count_in_their_order(rt: HostRuntime) -> Result<(), Fail> {
-    for order in &ORDERS {
-        let found = found_in(order, rt.alloc())?;
-        assert_eq!(rt; (order.name, found), (order.name, (order.want, order.want)));
-    }
+fn a_later_change_of_a_template_counts(rt: HostRuntime) -> Result<(), Fail> {
+    let put = Given::Put(1, OTHERS);
+    let put_options = Given::Put(1, OPTIONS);
+    let withdraw = Given::Withdraw(1);
+    assert_eq!(rt; left_by(rt.alloc(), Some(OPTIONS), &[])?, Some(OPTIONS));
+    assert_eq!(rt; left_by(rt.alloc(), None, &[put])?, Some(OTHERS));
+    assert_eq!(rt;
+        left_by(rt.alloc(), None, &[put, put_options])?,
+        Some(OPTIONS)
+    );
+    assert_eq!(rt; left_by(rt.alloc(), None, &[put_options, withdraw])?, None);
+    assert_eq!(rt;
+        left_by(rt.alloc(), Some(OTHERS), &[withdraw, put_options])?,
+        Some(OPTIONS)
+    );
+    Ok(())
+}
+
+#[test]
+fn a_template_goes_with_all_of_its_kind(rt: HostRuntime) -> Result<(), Fail> {
+    let put = Given::Put(1, OTHERS);
+    let all_others = Given::WithdrawAll(1, OTHERS);
+    let all_options = Given::WithdrawAll(1, OPTIONS);
+    assert_eq!(rt; left_by(rt.alloc(), Some(OPTIONS), &[all_options])?, None);
+    assert_eq!(rt;
+        left_by(rt.alloc(), Some(OPTIONS), &[all_others])?,
+        Some(OPTIONS)
+    );
+    assert_eq!(rt; left_by(rt.alloc(), None, &[put, all_others])?, None);
+    assert_eq!(rt;
+        left_by(rt.alloc(), None, &[put, all_options])?,
+        Some(OTHERS)
+    );
+    assert_eq!(rt;
+        left_by(rt.alloc(), Some(OTHERS), &[all_others, put])?,
+        Some(OTHERS)
+    );
+    Ok(())
+}
+
+#[test]
+fn a_template_of_the_other_kind_is_another(rt: HostRuntime) -> Result<(), Fail> {
+    let put = Given::Put(1, OPTIONS);
+    let all_others = Given::WithdrawAll(1, OTHERS);
+    let all_options = Given::WithdrawAll(1, OPTIONS);
+    assert_eq!(rt;
+        left_by(rt.alloc(), Some(OTHERS), &[put, all_others])?,
+        Some(OPTIONS)
+    );
+    assert_eq!(rt;
+        left_by(rt.alloc(), Some(OTHERS), &[put, all_options])?,
+        None
+    );
+    assert_eq!(rt;
+        left_by(rt.alloc(), None, &[all_options, put, all_options])?,
+        None
+    );
+    assert_eq!(rt;
+        left_by(rt.alloc(), None, &[all_others, put, all_others])?,
+        Some(OPTIONS)
+    );
+    Ok(())
+}
+
+#[test]
+fn a_change_elsewhere_is_none_here(rt: HostRuntime) -> Result<(), Fail> {
+    let put = Given::Put(2, OPTIONS);
+    let withdraw = Given::Withdraw(2);
+    let all_others = Given::WithdrawAll(2, OTHERS);
+    assert_eq!(rt;
+        left_by(rt.alloc(), Some(OTHERS), &[put, withdraw])?,
+        Some(OTHERS)
+    );
+    assert_eq!(rt;
+        left_by(rt.alloc(), Some(OTHERS), &[all_others])?,
+        Some(OTHERS)
+    );
     Ok(())
 }
 
@@ -635,13 +573,9 @@ fn a_rate_is_one_of_its_domain_and_sampler(rt: HostRuntime) -> Result<(), Fail> 
 fn a_commit_has_templates_and_rates(rt: HostRuntime) -> Result<(), Fail> {
     let mut stores = Stores::new(rt.alloc());
     let mut staged = Staged::new(rt.alloc());
-    let template = addresses(rt.alloc())?;
-    if !template.is_accepted(9) {
-        return Err("not accepted".into());
-    }
     assert!(rt; staged.is_empty());
     stores.options.learn(&domain(1), Some(7), 100)?;
-    staged.put(&domain(1), 300, template)?;
+    staged.put(&domain(1), 300, accepted(rt.alloc(), OTHERS)?)?;
     staged.learn(&domain(1), None, 200)?;
     staged.learn(&domain(1), Some(7), 300)?;
     staged.learn(&domain(1), Some(7), 400)?;
