@@ -380,77 +380,32 @@ fn many_templates_of_a_domain_are_withdrawn_and_put_again(rt: HostRuntime) -> Re
     Ok(())
 }
 
-#[test]
-fn staged_changes_wait_for_the_commit(rt: HostRuntime) -> Result<(), Fail> {
-    let mut stores = Stores::new(rt.alloc());
-    let mut staged = Staged::new(rt.alloc());
-    staged.put(&domain(1), 300, accepted(rt.alloc(), OTHERS)?)?;
-    staged.put(&domain(1), 301, accepted(rt.alloc(), OPTIONS)?)?;
-    staged.withdraw(&domain(2), 300)?;
-    staged.withdraw_all(&domain(1), OPTIONS)?;
-    assert_eq!(rt;
-        kind_of(staged.find(&stores, &domain(1), 300)),
-        Some(OTHERS)
-    );
-    assert_eq!(rt; kind_of(staged.find(&stores, &domain(1), 301)), None);
-    assert_eq!(rt; kind_of(stores.templates.find(&domain(1), 300)), None);
-    staged.commit(&mut stores)?;
-    assert_eq!(rt;
-        kind_of(stores.templates.find(&domain(1), 300)),
-        Some(OTHERS)
-    );
-    assert_eq!(rt; kind_of(stores.templates.find(&domain(1), 301)), None);
-    Ok(())
-}
-
-#[test]
-fn a_staged_withdrawal_hides_what_is_kept_and_staged(rt: HostRuntime) -> Result<(), Fail> {
-    let mut stores = Stores::new(rt.alloc());
-    let mut staged = Staged::new(rt.alloc());
-    stores
-        .templates
-        .put(&domain(1), 300, accepted(rt.alloc(), OTHERS)?)?;
-    staged.put(&domain(1), 301, accepted(rt.alloc(), OTHERS)?)?;
-    staged.put(&domain(1), 302, accepted(rt.alloc(), OPTIONS)?)?;
-    staged.withdraw(&domain(1), 301)?;
-    assert_eq!(rt; kind_of(staged.find(&stores, &domain(1), 301)), None);
-    staged.withdraw_all(&domain(1), OTHERS)?;
-    assert_eq!(rt; kind_of(staged.find(&stores, &domain(1), 300)), None);
-    assert_eq!(rt;
-        kind_of(staged.find(&stores, &domain(1), 302)),
-        Some(OPTIONS)
-    );
-    staged.commit(&mut stores)?;
-    assert_eq!(rt; kind_of(stores.templates.find(&domain(1), 300)), None);
-    assert_eq!(rt;
-        kind_of(stores.templates.find(&domain(1), 302)),
-        Some(OPTIONS)
-    );
-    Ok(())
-}
-
-// A change of the template with the id 300 in the domain with this number, or of all of a kind there.
+// A change of the template with this id in the domain with this number, or of all of a kind there.
 #[derive(Clone, Copy)]
 enum Given {
-    Put(u32, bool),
-    Withdraw(u32),
+    Put(u32, u16, bool),
+    Withdraw(u32, u16),
     WithdrawAll(u32, bool),
 }
 
 fn stage(staged: &mut Staged, alloc: Global, change: Given) -> Result<(), Fail> {
     match change {
-        Given::Put(id, options) => {
+        Given::Put(number, id, options) => {
             let template = accepted(alloc, options)?;
-            staged.put(&domain(id), 300, template)?;
+            staged.put(&domain(number), id, template)?;
         }
-        Given::Withdraw(id) => staged.withdraw(&domain(id), 300)?,
-        Given::WithdrawAll(id, options) => staged.withdraw_all(&domain(id), options)?,
+        Given::Withdraw(number, id) => staged.withdraw(&domain(number), id)?,
+        Given::WithdrawAll(number, options) => staged.withdraw_all(&domain(number), options)?,
     }
     Ok(())
 }
 
-// The kind of the template that is found in domain 1 after the changes of a datagram, where one of a kind was kept: the same while
-// they are staged and once they are committed.
+fn kept_in(stores: &Stores) -> Option<bool> {
+    kind_of(stores.templates.find(&domain(1), 300))
+}
+
+// The kind of the template 300 that is found in domain 1 after the changes of a datagram, where one of a kind was kept: the same
+// while they are staged and once they are committed, and the store keeps what it had until then.
 fn left_by(alloc: Global, kept: Option<bool>, changes: &[Given]) -> Result<Option<bool>, Fail> {
     let mut stores = Stores::new(alloc);
     if let Some(options) = kept {
@@ -462,19 +417,59 @@ fn left_by(alloc: Global, kept: Option<bool>, changes: &[Given]) -> Result<Optio
         stage(&mut staged, alloc, *change)?;
     }
     let found = kind_of(staged.find(&stores, &domain(1), 300));
+    let waiting = kept_in(&stores);
     staged.commit(&mut stores)?;
-    let left = kind_of(stores.templates.find(&domain(1), 300));
-    if found != left {
-        return Err("the commit leaves something else than was staged".into());
+    let left = kept_in(&stores);
+    if waiting != kept || found != left {
+        return Err("a change came before the commit, or another with it".into());
     }
     Ok(left)
 }
 
 #[test]
+fn staged_changes_wait_for_the_commit(rt: HostRuntime) -> Result<(), Fail> {
+    let changes = [
+        Given::Put(1, 300, OTHERS),
+        Given::Put(1, 301, OPTIONS),
+        Given::Withdraw(2, 300),
+        Given::WithdrawAll(1, OPTIONS),
+    ];
+    assert_eq!(rt; left_by(rt.alloc(), None, &changes)?, Some(OTHERS));
+    let changes = [
+        Given::Put(1, 300, OPTIONS),
+        Given::Put(1, 301, OTHERS),
+        Given::Withdraw(2, 300),
+        Given::WithdrawAll(1, OPTIONS),
+    ];
+    assert_eq!(rt; left_by(rt.alloc(), None, &changes)?, None);
+    Ok(())
+}
+
+#[test]
+fn a_staged_withdrawal_hides_what_is_kept_and_staged(rt: HostRuntime) -> Result<(), Fail> {
+    let changes = [
+        Given::Put(1, 301, OTHERS),
+        Given::Put(1, 302, OPTIONS),
+        Given::Withdraw(1, 301),
+        Given::WithdrawAll(1, OTHERS),
+    ];
+    let before = changes.get(..3).ok_or("no fourth change")?;
+    assert_eq!(rt; left_by(rt.alloc(), Some(OTHERS), before)?, Some(OTHERS));
+    assert_eq!(rt; left_by(rt.alloc(), Some(OTHERS), &changes)?, None);
+    assert_eq!(rt;
+        left_by(rt.alloc(), Some(OPTIONS), &changes)?,
+        Some(OPTIONS)
+    );
+    let changes = [Given::Put(1, 300, OPTIONS), Given::Withdraw(1, 300)];
+    assert_eq!(rt; left_by(rt.alloc(), Some(OTHERS), &changes)?, None);
+    Ok(())
+}
+
+#[test]
 fn a_later_change_of_a_template_counts(rt: HostRuntime) -> Result<(), Fail> {
-    let put = Given::Put(1, OTHERS);
-    let put_options = Given::Put(1, OPTIONS);
-    let withdraw = Given::Withdraw(1);
+    let put = Given::Put(1, 300, OTHERS);
+    let put_options = Given::Put(1, 300, OPTIONS);
+    let withdraw = Given::Withdraw(1, 300);
     assert_eq!(rt; left_by(rt.alloc(), Some(OPTIONS), &[])?, Some(OPTIONS));
     assert_eq!(rt; left_by(rt.alloc(), None, &[put])?, Some(OTHERS));
     assert_eq!(rt;
@@ -491,7 +486,7 @@ fn a_later_change_of_a_template_counts(rt: HostRuntime) -> Result<(), Fail> {
 
 #[test]
 fn a_template_goes_with_all_of_its_kind(rt: HostRuntime) -> Result<(), Fail> {
-    let put = Given::Put(1, OTHERS);
+    let put = Given::Put(1, 300, OTHERS);
     let all_others = Given::WithdrawAll(1, OTHERS);
     let all_options = Given::WithdrawAll(1, OPTIONS);
     assert_eq!(rt; left_by(rt.alloc(), Some(OPTIONS), &[all_options])?, None);
@@ -513,7 +508,7 @@ fn a_template_goes_with_all_of_its_kind(rt: HostRuntime) -> Result<(), Fail> {
 
 #[test]
 fn a_template_of_the_other_kind_is_another(rt: HostRuntime) -> Result<(), Fail> {
-    let put = Given::Put(1, OPTIONS);
+    let put = Given::Put(1, 300, OPTIONS);
     let all_others = Given::WithdrawAll(1, OTHERS);
     let all_options = Given::WithdrawAll(1, OPTIONS);
     assert_eq!(rt;
@@ -537,8 +532,8 @@ fn a_template_of_the_other_kind_is_another(rt: HostRuntime) -> Result<(), Fail> 
 
 #[test]
 fn a_change_elsewhere_is_none_here(rt: HostRuntime) -> Result<(), Fail> {
-    let put = Given::Put(2, OPTIONS);
-    let withdraw = Given::Withdraw(2);
+    let put = Given::Put(2, 300, OPTIONS);
+    let withdraw = Given::Withdraw(2, 300);
     let all_others = Given::WithdrawAll(2, OTHERS);
     assert_eq!(rt;
         left_by(rt.alloc(), Some(OTHERS), &[put, withdraw])?,
@@ -570,24 +565,69 @@ fn a_rate_is_one_of_its_domain_and_sampler(rt: HostRuntime) -> Result<(), Fail> 
 }
 
 #[test]
+fn a_datagram_that_changes_nothing_has_nothing_staged(rt: HostRuntime) -> Result<(), Fail> {
+    let mut staged = Staged::new(rt.alloc());
+    assert!(rt; staged.is_empty());
+    staged.learn(&domain(1), None, 200)?;
+    assert!(rt; !staged.is_empty());
+    Ok(())
+}
+
+// The rate of a sampler of domain 1 that is found after the rates of a datagram, each with its domain's number, where one was kept:
+// the same while they are staged and once they are committed, and the store keeps what it had until then.
+fn rate_left_by(
+    alloc: Global,
+    sampler: Option<u64>,
+    kept: Option<u32>,
+    lessons: &[(u32, Option<u64>, u32)],
+) -> Result<Option<u32>, Fail> {
+    let mut stores = Stores::new(alloc);
+    if let Some(rate) = kept {
+        stores.options.learn(&domain(1), sampler, rate)?;
+    }
+    let mut staged = Staged::new(alloc);
+    for (number, from, rate) in lessons {
+        staged.learn(&domain(*number), *from, *rate)?;
+    }
+    let found = staged.rate(&stores, &domain(1), sampler);
+    let waiting = stores.options.rate(&domain(1), sampler);
+    staged.commit(&mut stores)?;
+    let left = stores.options.rate(&domain(1), sampler);
+    if waiting != kept || found != left {
+        return Err("a rate came before the commit, or another with it".into());
+    }
+    Ok(left)
+}
+
+#[test]
+fn staged_rates_wait_for_the_commit(rt: HostRuntime) -> Result<(), Fail> {
+    let lessons = [
+        (1, None, 200),
+        (1, Some(7), 300),
+        (1, Some(7), 400),
+        (2, Some(8), 500),
+    ];
+    assert_eq!(rt;
+        rate_left_by(rt.alloc(), Some(7), Some(100), &lessons)?,
+        Some(400)
+    );
+    assert_eq!(rt; rate_left_by(rt.alloc(), None, None, &lessons)?, Some(200));
+    assert_eq!(rt; rate_left_by(rt.alloc(), Some(8), None, &lessons)?, None);
+    assert_eq!(rt;
+        rate_left_by(rt.alloc(), Some(9), Some(100), &lessons)?,
+        Some(100)
+    );
+    Ok(())
+}
+
+#[test]
 fn a_commit_has_templates_and_rates(rt: HostRuntime) -> Result<(), Fail> {
     let mut stores = Stores::new(rt.alloc());
     let mut staged = Staged::new(rt.alloc());
-    assert!(rt; staged.is_empty());
-    stores.options.learn(&domain(1), Some(7), 100)?;
-    staged.put(&domain(1), 300, accepted(rt.alloc(), OTHERS)?)?;
+    stage(&mut staged, rt.alloc(), Given::Put(1, 300, OTHERS))?;
     staged.learn(&domain(1), None, 200)?;
-    staged.learn(&domain(1), Some(7), 300)?;
-    staged.learn(&domain(1), Some(7), 400)?;
-    assert!(rt; !staged.is_empty());
-    assert_eq!(rt; staged.rate(&stores, &domain(1), Some(7)), Some(400));
-    assert_eq!(rt; staged.rate(&stores, &domain(1), None), Some(200));
-    assert_eq!(rt; staged.rate(&stores, &domain(2), None), None);
-    assert_eq!(rt; stores.options.rate(&domain(1), Some(7)), Some(100));
-    assert_eq!(rt; stores.options.rate(&domain(1), None), None);
     staged.commit(&mut stores)?;
-    assert!(rt; stores.templates.find(&domain(1), 300).is_some());
-    assert_eq!(rt; stores.options.rate(&domain(1), Some(7)), Some(400));
+    assert_eq!(rt; kept_in(&stores), Some(OTHERS));
     assert_eq!(rt; stores.options.rate(&domain(1), None), Some(200));
     Ok(())
 }
