@@ -9,4 +9,6 @@ pub mod Order
 pub mod Packed
 pub mod Prefixes
 pub mod Primitives
+pub mod RouteEvents
 pub mod Routes
+pub mod Updates

@@ -18,9 +18,12 @@ mod packed;
 mod prefix;
 mod primitives;
 mod reading;
+mod rib;
 mod route;
+mod route_event;
 #[cfg(test)]
 mod tests;
+mod update;
 
 pub use addr::Addr;
 pub use address_text::AddressText;
@@ -35,8 +38,12 @@ pub use list::{List, Octets, Text};
 pub use memory::NoMemory;
 pub use order::{
     addresses_are_ordered, columns_are_in_order, keys_are_ordered, prefixes_are_ordered,
+    sources_are_ordered,
 };
 pub use prefix::Prefix;
 pub use primitives::{Column, Primitives};
 pub use reading::{read_address, spellings_are_read, texts_are_read};
+pub use rib::{PeerKey, Rib, RibSource, RouteScope};
 pub use route::{Hop, RouteAttrs, RouteRef};
+pub use route_event::{Act, Reply, RouteEvent, Side};
+pub use update::{Announce, Change, Nlri, RouteMessage, Update};

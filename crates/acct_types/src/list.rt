@@ -53,6 +53,11 @@ impl<T> List<T> {
         self.items
     }
 
+    // Where the items are kept.
+    pub(crate) fn alloc(&self) -> Global {
+        *self.items.allocator()
+    }
+
     pub fn len(&self) -> usize
         ensures { result ≡ length self.now }
     {

@@ -1,6 +1,6 @@
 //! What a route says of its prefix, and its texts.
 
-ghost use Rattle.std.specs.Prelude.{◌≡◌, ◌++◌, true, OnOk, OnErr, codes, decimal};
+ghost use Rattle.std.specs.Prelude.{◌≡◌, ◌++◌, true, IfOk, OnOk, OnErr, codes, decimal};
 ghost use Rattle.acct_types.specs.Cells.{are_plain};
 ghost use Rattle.acct_types.specs.Routes.{BeginsWith, communities_text, community_text, hop_text, numbers_text, path_text};
 
@@ -36,7 +36,42 @@ pub struct RouteRef<'a> {
     pub attrs: &'a RouteAttrs,
 }
 
+impl Hop {
+    /// An equal hop.
+    pub fn copy(&self) -> Result<Hop, NoMemory>
+        ensures { IfOk result (λ copy. copy ≡ self.now) }
+    {
+        match self {
+            Hop::One(number) => Ok(Hop::One(*number)),
+            Hop::Set(numbers) => Ok(Hop::Set(numbers.copy()?)),
+        }
+    }
+}
+
+fn copy_path(path: &List<Hop>) -> Result<List<Hop>, NoMemory>
+    ensures { IfOk result (λ copy. copy ≡ path.now) }
+{
+    let mut copy = List::new(path.alloc());
+    for hop in path.as_slice() {
+        copy.push(hop.copy()?)?;
+    }
+    Ok(copy)
+}
+
 impl RouteAttrs {
+    /// Equal attributes.
+    pub fn copy(&self) -> Result<RouteAttrs, NoMemory>
+        ensures { IfOk result (λ copy. copy ≡ self.now) }
+    {
+        Ok(RouteAttrs {
+            origin: self.origin,
+            path: copy_path(&self.path)?,
+            med: self.med,
+            local_pref: self.local_pref,
+            communities: self.communities.copy()?,
+        })
+    }
+
     /// Appends the hops with `_` between them, a set as `{1_2}`: plain words. After NoMemory `out` is unchanged.
     #[tactic(auto, using(crate::proofs::RouteLemmas::plain_path))]
     pub fn append_path_text(&self, out: &mut Octets) -> Result<(), NoMemory>

@@ -4,17 +4,18 @@ use Rattle.std.proofs.lemmas.Bool.{ne_eqb}
 use Rattle.std.proofs.lemmas.Bool.Decides.{nat_tests}
 use Rattle.std.proofs.lemmas.List.{append-nil, drop-replicate, length-take, map-append}
 use Rattle.std.specs.Prelude.{◌==◌, ◌↔◌, Bool, IsNone, IsSome, not, Option, Some, None, map, replicate, if◌then◌else◌}
+use Rattle.acct_types.specs.Updates.{nlri_view, route_view}
 use Rattle.acct_types.specs.Prefixes.{width_of}
 use Rattle.acct_types.specs.declared.addr.Addr.{Addr}
 use Rattle.acct_types.specs.declared.prefix.Prefix.{Prefix}
 use Rattle.bgp_msg.specs.Families.{family_of, hop_length, reached}
 use Rattle.bgp_msg.specs.Pieces.{pieces}
-use Rattle.bgp_msg.specs.Prefixes.{address_of, bad_prefix, bits_of, filled, first_bad, is_bad, named, nlri_view, prefix_size, prefixes_in, width}
-use Rattle.bgp_msg.specs.Routes.{route_view, routes}
+use Rattle.bgp_msg.specs.Prefixes.{address_of, bad_prefix, bits_of, filled, first_bad, is_bad, named, prefix_size, prefixes_in, width}
+use Rattle.bgp_msg.specs.Routes.{routes}
 use Rattle.bgp_msg.specs.declared.families.Family.{Family}
 use Rattle.bgp_msg.specs.declared.families.Family.TheVariants.{V4, V6}
-use Rattle.bgp_msg.specs.declared.message.Announce.{Announce}
-use Rattle.bgp_msg.specs.declared.message.Nlri.{Nlri}
+use Rattle.acct_types.specs.declared.update.Announce.{Announce}
+use Rattle.acct_types.specs.declared.update.Nlri.{Nlri}
 use Rattle.bgp_msg.proofs.PieceLemmas.{HasSize, pieces_end, pieces_next}
 
 pub has_size : HasSize prefix_size

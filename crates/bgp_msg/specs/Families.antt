@@ -2,10 +2,11 @@
 -- MP_UNREACH_NLRI: family (2), subfamily (1), prefixes. Unicast routes of IPv4 (1/1) and of IPv6 (2/1) are kept; other families are passed
 -- over.
 use Rattle.std.specs.Prelude.{ℕ, ◌+◌, ◌==◌, ◌||◌, ◌&&◌, Bool, true, false, nat_lt, nat_le, List, [], length, drop, map, slice_index, Option, Some, None, is_none, if◌then◌else◌, not}
+use Rattle.acct_types.specs.Updates.{Named}
 use Rattle.acct_types.specs.Numbers.{number_at}
 use Rattle.acct_types.specs.declared.addr.Addr.{Addr}
 use Rattle.acct_types.specs.declared.addr.Addr.TheVariants as address
-use Rattle.bgp_msg.specs.Prefixes.{Named, bad_prefix, prefixes_in}
+use Rattle.bgp_msg.specs.Prefixes.{bad_prefix, prefixes_in}
 use Rattle.bgp_msg.specs.declared.families.Family.{Family}
 use Rattle.bgp_msg.specs.declared.families.Family.TheVariants.{V4, V6}
 

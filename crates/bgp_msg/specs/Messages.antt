@@ -1,8 +1,9 @@
 -- What a whole message says, and what its reader answers.
 use Rattle.std.specs.Prelude.{ℕ, ◌≡◌, ◌==◌, List, slice_index, Option, Some, None, Result, Ok, Err, if◌then◌else◌}
+use Rattle.acct_types.specs.Updates.{update_view}
 use Rattle.bgp_msg.specs.Frames.{kind_of}
 use Rattle.bgp_msg.specs.Opens.{hello_of, open_fault}
-use Rattle.bgp_msg.specs.Updates.{said, update_fault, update_view}
+use Rattle.bgp_msg.specs.Updates.{said, update_fault}
 use Rattle.bgp_msg.specs.declared.message.Agreed.{Agreed}
 use Rattle.bgp_msg.specs.declared.message.BgpFault.{BgpFault}
 use Rattle.bgp_msg.specs.declared.message.BgpMessage.{BgpMessage}

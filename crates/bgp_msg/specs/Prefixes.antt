@@ -3,10 +3,10 @@
 use Rattle.std.specs.Prelude.{ℕ, ◌+◌, ◌-◌, ◌/◌, ◌||◌, Bool, nat_lt, List, [], ◌∷◌, ◌++◌, length, take, drop, map, replicate, slice_index, Option, Some, None, if◌then◌else◌}
 use Rattle.acct_types.specs.Numbers.{number_at}
 use Rattle.acct_types.specs.Prefixes.{network_of}
+use Rattle.acct_types.specs.Updates.{Named}
 use Rattle.acct_types.specs.declared.addr.Addr.{Addr}
 use Rattle.acct_types.specs.declared.addr.Addr.TheVariants as address
 use Rattle.bgp_msg.specs.Pieces.{pieces}
-use Rattle.bgp_msg.specs.declared.message.Nlri.{Nlri}
 use Rattle.bgp_msg.specs.declared.families.Family.{Family}
 use Rattle.bgp_msg.specs.declared.families.Family.TheVariants.{V4, V6}
 
@@ -33,12 +33,6 @@ first_bad family place (prefix ∷ others) = if is_bad family prefix then Some p
 abbrev pub bad_prefix : Family → ℕ → List ℕ → Option ℕ
 bad_prefix family place octets = first_bad family place (pieces prefix_size octets)
 
--- A prefix that was read. Its bits past the length are 0.
-pub record Named : Type 0 where
-  pub addr : Addr
-  pub len : ℕ
-  pub path_id : ℕ
-
 -- the octets that are there, and zeros in place of those that aren't
 abbrev pub filled : List ℕ → List ℕ
 filled octets = take 16 octets ++ replicate (16 - length octets) 0
@@ -52,7 +46,3 @@ named family prefix = record { addr = network_of (bits_of prefix) (address_of fa
 
 unfoldable pub prefixes_in : Family → List ℕ → List Named
 prefixes_in family octets = map (named family) (pieces prefix_size octets)
-
--- what the code keeps of a prefix
-abbrev pub nlri_view : Nlri → Named
-nlri_view nlri = record { addr = nlri.prefix.addr; len = nlri.prefix.len; path_id = nlri.path_id }

@@ -2,6 +2,7 @@
 -- prefixes up to the end.
 use Rattle.std.specs.Prelude.{ℕ, ◌≡◌, ◌+◌, ◌/◌, ◌==◌, ◌||◌, ◌&&◌, Bool, true, false, nat_lt, List, [], ◌∷◌, ◌++◌, length, take, drop, map, slice_index, Option, Some, None, is_some, if◌then◌else◌, not}
 use Rattle.std.specs.Option.{option_or}
+use Rattle.acct_types.specs.Updates.{Named, Route, Said}
 use Rattle.acct_types.specs.Numbers.{number_at}
 use Rattle.acct_types.specs.declared.addr.Addr.TheVariants as address
 use Rattle.acct_types.specs.declared.route.Hop.{Hop}
@@ -11,13 +12,12 @@ use Rattle.bgp_msg.specs.Families.{reach_hop, reached, unreached}
 use Rattle.bgp_msg.specs.Frames.{fault}
 use Rattle.bgp_msg.specs.Paths.{is_path, numbers_of, path_of, replaced}
 use Rattle.bgp_msg.specs.Pieces.{pieces}
-use Rattle.bgp_msg.specs.Prefixes.{Named, bad_prefix, nlri_view, prefixes_in}
-use Rattle.bgp_msg.specs.Routes.{Route, route_view, routes}
+use Rattle.bgp_msg.specs.Prefixes.{bad_prefix, prefixes_in}
+use Rattle.bgp_msg.specs.Routes.{routes}
 use Rattle.bgp_msg.specs.declared.attributes.Form.TheVariants.{Exactly}
 use Rattle.bgp_msg.specs.declared.attributes.Rule.{Rule}
 use Rattle.bgp_msg.specs.declared.families.Family.TheVariants.{V4}
 use Rattle.bgp_msg.specs.declared.message.BgpFault.{BgpFault}
-use Rattle.bgp_msg.specs.declared.message.Update.{Update}
 
 abbrev pub withdrawn_length : List ℕ → ℕ
 withdrawn_length octets = number_at octets 19 2
@@ -143,18 +143,9 @@ names_unreached None = []
 names_unreached (Some value) = unreached value
 
 -- what an UPDATE says
-pub record Said : Type 0 where
-  pub withdrawn : List Named
-  pub announced : List Route
-  pub attrs : RouteAttrs
-
 unfoldable pub said : Bool → List ℕ → Said
 said wide octets = record {
   withdrawn = prefixes_in V4 (withdrawn_octets octets) ++ names_unreached (value_in 15 (attributes_of octets));
   announced = routes_behind (value_in 3 (attributes_of octets)) (announced_octets octets) ++ routes_reached (value_in 14 (attributes_of octets));
   attrs = attrs_of wide (attributes_of octets);
 }
-
--- what the code keeps of it
-abbrev pub update_view : Update → Said
-update_view update = record { withdrawn = map nlri_view update.withdrawn; announced = map route_view update.announced; attrs = update.attrs }

@@ -1,15 +1,14 @@
 //! MP_REACH_NLRI and MP_UNREACH_NLRI (RFC 4760, 3 and 4).
 
 ghost use Rattle.std.specs.Prelude.{◌≡◌, ◌≤◌, ◌⊎◌, ◌+◌, ◌++◌, ◌==◌, length, map, not, OnOk, true};
+ghost use Rattle.acct_types.specs.Updates.{nlri_view, route_view};
 ghost use Rattle.bgp_msg.specs.Families.{are_prefixes, family_of, hop_length, is_reach, is_unreach, reach_hop, reached, reaches, takes_hop, unreached};
-ghost use Rattle.bgp_msg.specs.Prefixes.{nlri_view};
-ghost use Rattle.bgp_msg.specs.Routes.{route_view, routes};
+ghost use Rattle.bgp_msg.specs.Routes.{routes};
 
 use crate::pieces::behind;
 use crate::prefixes::{bad_prefix, read_prefixes, read_routes};
-use crate::{Announce, Nlri};
 use acct_types::numbers::{after, u16_at, u32_at, u128_at};
-use acct_types::{Addr, List, NoMemory};
+use acct_types::{Addr, Announce, List, Nlri, NoMemory};
 
 /// The address families whose unicast routes are kept.
 #[derive(Clone, Copy)]

@@ -19,7 +19,7 @@ mod write;
 pub use bmp_fault::BmpFault;
 pub use header::frame;
 pub use laws::{a_message_stands_alone, what_follows_changes_nothing, what_is_written_is_read};
-pub use message::{Agreed, Announce, BgpFault, BgpMessage, BgpRefusal, Hello, Nlri, Update};
+pub use message::{Agreed, BgpFault, BgpMessage, BgpRefusal, Hello};
 pub use read::read_message;
 pub use write::{write_keepalive, write_notification, write_open};
 

@@ -1,6 +1,6 @@
 ghost use Rattle.std.specs.Prelude.{◌≡◌};
 
-use acct_types::{Addr, List, NoMemory, Prefix, RouteAttrs};
+use acct_types::{NoMemory, Update};
 
 /// What the two sides of a session agreed on for its UPDATEs.
 #[derive(Clone, Copy, Debug, PartialEq, Eq)]
@@ -37,28 +37,6 @@ pub struct Hello {
     pub path_ids_v4: bool,
     /// The peer sends path identifiers for IPv6. That capability isn't read yet, so this is false.
     pub path_ids_v6: bool,
-}
-
-/// A prefix as a message names it (RFC 4271, 4.3), with its path identifier, 0 where it has none.
-#[derive(Clone, Copy, Debug, PartialEq, Eq)]
-pub struct Nlri {
-    pub prefix: Prefix,
-    pub path_id: u32,
-}
-
-/// A prefix that is announced, and its next hop.
-#[derive(Clone, Copy, Debug, PartialEq, Eq)]
-pub struct Announce {
-    pub nlri: Nlri,
-    pub next_hop: Addr,
-}
-
-/// What an UPDATE says (RFC 4271, 4.3, and RFC 4760). The withdrawals come first: a prefix that stands in both lists is announced.
-#[derive(Debug, PartialEq, Eq, Drop)]
-pub struct Update {
-    pub withdrawn: List<Nlri>,
-    pub announced: List<Announce>,
-    pub attrs: RouteAttrs,
 }
 
 /// A message (RFC 4271, 4).

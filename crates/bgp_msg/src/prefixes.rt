@@ -1,14 +1,14 @@
 //! Lists of prefixes (RFC 4271, 4.3).
 
 ghost use Rattle.std.specs.Prelude.{◌≡◌, ◌≤◌, ◌<◌, ◌+◌, ◌++◌, length, map, OnOk, OnErr, IfSome, None, false};
-ghost use Rattle.bgp_msg.specs.Prefixes.{address_of, bad_prefix, bits_of, filled, is_bad, named, nlri_view, prefix_size, prefixes_in, width};
-ghost use Rattle.bgp_msg.specs.Routes.{route_view, routes};
+ghost use Rattle.acct_types.specs.Updates.{nlri_view, route_view};
+ghost use Rattle.bgp_msg.specs.Prefixes.{address_of, bad_prefix, bits_of, filled, is_bad, named, prefix_size, prefixes_in, width};
+ghost use Rattle.bgp_msg.specs.Routes.{routes};
 
 use crate::families::Family;
 use crate::pieces::{behind, front};
-use crate::{Announce, Nlri};
 use acct_types::numbers::{after, u32_at, u128_at};
-use acct_types::{Addr, List, NoMemory, Prefix};
+use acct_types::{Addr, Announce, List, Nlri, NoMemory, Prefix};
 
 fn width(family: Family) -> u8
     ensures { result ≡ width family }

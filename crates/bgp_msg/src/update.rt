@@ -1,14 +1,15 @@
 //! UPDATE (RFC 4271, 4.3 and 6.3, and RFC 4760).
 
 ghost use Rattle.std.specs.Prelude.{◌≡◌, ◌≤◌, ◌+◌, ◌++◌, ◌==◌, is_some, length, map, not, IfOk, OnOk, None};
+ghost use Rattle.acct_types.specs.Updates.{nlri_view, route_view, update_view};
 ghost use Rattle.bgp_msg.specs.Attributes.{AreFormed, attribute_size, value_in};
 ghost use Rattle.bgp_msg.specs.Pieces.{pieces};
 ghost use Rattle.bgp_msg.specs.Frames.{fault};
-ghost use Rattle.bgp_msg.specs.Prefixes.{bad_prefix, nlri_view, prefixes_in};
-ghost use Rattle.bgp_msg.specs.Routes.{route_view};
-ghost use Rattle.bgp_msg.specs.Updates.{IsNumber, announced_octets, announced_place, attribute_octets, attributes_place, attrs_of, communities_in, lacks, lengths_fault, merged, names_unreached, number_in, origin_in, parts_fault, path_in, prefix_fault, reached_by, routes_behind, routes_reached, said, update_fault, update_view, whole_path, withdrawn_octets};
+ghost use Rattle.bgp_msg.specs.Prefixes.{bad_prefix, prefixes_in};
+ghost use Rattle.bgp_msg.specs.Updates.{IsNumber, announced_octets, announced_place, attribute_octets, attributes_place, attrs_of, communities_in, lacks, lengths_fault, merged, names_unreached, number_in, origin_in, parts_fault, path_in, prefix_fault, reached_by, routes_behind, routes_reached, said, update_fault, whole_path, withdrawn_octets};
 ghost use Rattle.bgp_msg.specs.declared.families.Family.TheVariants.{V4};
 
+use crate::BgpFault;
 use crate::attributes::{
     AS_PATH, AS4_PATH, COMMUNITIES, LOCAL_PREF, MP_REACH_NLRI, MP_UNREACH_NLRI, MULTI_EXIT_DISC,
     NEXT_HOP, ORIGIN, attributes_fault, value_in,
@@ -16,9 +17,8 @@ use crate::attributes::{
 use crate::families::{Family, reaches_some, read_reached, read_unreached};
 use crate::paths::{append_path, is_path, read_numbers, read_path};
 use crate::prefixes::{bad_prefix, read_prefixes, read_routes};
-use crate::{Announce, BgpFault, Nlri, Update};
 use acct_types::numbers::{after, u16_at, u32_at};
-use acct_types::{Addr, Hop, List, NoMemory, RouteAttrs};
+use acct_types::{Addr, Announce, Hop, List, Nlri, NoMemory, RouteAttrs, Update};
 use std::alloc::Global;
 
 fn fault(subcode: u8, place: u32) -> BgpFault

@@ -1,6 +1,6 @@
 use crate::tests::{NARROW, WIDE, Wrong, fault_of, joined, message, read};
-use crate::{Agreed, BgpMessage, Update};
-use acct_types::{AddressText, NoMemory, Octets, append_decimal};
+use crate::{Agreed, BgpMessage};
+use acct_types::{AddressText, NoMemory, Octets, Update, append_decimal};
 use std::alloc::Global;
 use std::test::Fail;
 

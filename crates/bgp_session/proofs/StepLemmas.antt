@@ -2,8 +2,8 @@
 use Rattle.std.proofs.Common.{◌≡◌, ◌+◌, ◌∙◌, ◌∷◌, ◌++◌, [], ℕ, false, true, List, take, drop, refl, sym, ap, subst, append_assoc, add_assoc, zero-add, arith}
 use Rattle.std.proofs.lemmas.Bool.Decides.{nat_tests}
 use Rattle.std.specs.Prelude.{Bool, Option, Some, None, Ok, Err, is_some, ◌||◌, ◌==◌, not, map, if◌then◌else◌}
+use Rattle.acct_types.specs.Updates.{Said, update_view}
 use Rattle.bgp_msg.specs.Frames.{framed}
-use Rattle.bgp_msg.specs.Updates.{Said, update_view}
 use Rattle.bgp_msg.specs.declared.message.BgpFault.{BgpFault}
 use Rattle.bgp_session.specs.Steps.{Adds, Outcome, ending, kept, onward, outcome, step, steps}
 use Rattle.bgp_session.specs.Stream.{header_end, messages, rest_of}

@@ -1,7 +1,7 @@
 -- Laws of lives, in words of their own.
 use Rattle.std.specs.Prelude.{ℕ, ◌≡◌, ◌⊎◌, List, [], ◌∷◌, ◌++◌, Some}
+use Rattle.acct_types.specs.Updates.{Said}
 use Rattle.bgp_msg.specs.Frames.{kind_of}
-use Rattle.bgp_msg.specs.Updates.{Said}
 use Rattle.bgp_session.specs.Lives.{closed_by, replies_to, updates_in}
 use Rattle.bgp_session.specs.Moments.{Piece, moment_of}
 use Rattle.bgp_session.specs.Sessions.{SessionState}

@@ -2,10 +2,11 @@
 -- or that is refused, is a fault, and ends it. A NOTIFICATION ends it at any point.
 use Rattle.std.specs.Prelude.{ℕ, ◌==◌, ◌||◌, Bool, false, List, [], ◌∷◌, ◌++◌, flat_map, min, slice_index, Option, Some, None, is_some, option_map, if◌then◌else◌, not}
 use Rattle.std.specs.Option.{option_or}
+use Rattle.acct_types.specs.Updates.{Said}
 use Rattle.bgp_msg.specs.Frames.{fault, kind_of}
 use Rattle.bgp_msg.specs.Messages.{body_fault}
 use Rattle.bgp_msg.specs.Opens.{hello_of}
-use Rattle.bgp_msg.specs.Updates.{Said, said}
+use Rattle.bgp_msg.specs.Updates.{said}
 use Rattle.bgp_msg.specs.Written.{keepalive_spelling, notification_spelling, open_spelling}
 use Rattle.bgp_msg.specs.declared.message.Agreed.{Agreed}
 use Rattle.bgp_session.specs.Stream.{header_end, messages, rest_of}

@@ -1,8 +1,8 @@
 -- One message after another: what each gives, as far as the two sides have come.
 use Rattle.std.specs.Prelude.{ℕ, ◌≡◌, ◌+◌, ◌==◌, ◌||◌, List, [], ◌∷◌, ◌++◌, length, map, min, Option, Some, None, is_some, if◌then◌else◌, not}
+use Rattle.acct_types.specs.Updates.{Said, update_view}
 use Rattle.bgp_msg.specs.Frames.{kind_of}
 use Rattle.bgp_msg.specs.Opens.{hello_of}
-use Rattle.bgp_msg.specs.Updates.{Said, update_view}
 use Rattle.bgp_msg.specs.Written.{keepalive_spelling, open_spelling}
 use Rattle.bgp_msg.specs.declared.message.Hello.{Hello}
 use Rattle.bgp_session.specs.Lives.{end_at, farewell, next, reply_to, update_in}

@@ -3,8 +3,7 @@
 ghost use Rattle.std.specs.Prelude.{◌≡◌, [], false, None};
 
 use crate::{Turn, Why};
-use acct_types::{List, Octets};
-use bgp_msg::Update;
+use acct_types::{List, Octets, Update};
 use std::alloc::Global;
 
 /// What is gathered while a piece is heard.

@@ -11,10 +11,7 @@ use crate::begun::complete;
 use crate::hearing::Hearing;
 use crate::progress::{Local, Progress, Stage};
 use acct_types::{NoMemory, Octets};
-use bgp_msg::{
-    Agreed, BgpFault, BgpMessage, BgpRefusal, Hello, frame, read_message, write_keepalive,
-    write_notification, write_open,
-};
+use bgp_msg::{Agreed, BgpFault, BgpMessage, BgpRefusal, Hello, frame, read_message, write_keepalive, write_notification, write_open};
 use std::alloc::Global;
 
 const NOTIFICATION: u8 = 3;

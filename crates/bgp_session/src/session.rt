@@ -1,5 +1,5 @@
 ghost use Rattle.std.specs.Prelude.{◌≡◌, ◌≤◌, ◌++◌, ◌∷◌, [], true, false, List as Sequence, map, length, is_none, is_some, if◌then◌else◌, OnOk, OnErr, IfOk};
-ghost use Rattle.bgp_msg.specs.Updates.{update_view};
+ghost use Rattle.acct_types.specs.Updates.{update_view};
 ghost use Rattle.bgp_session.specs.Lives.{closed_by, replies_to, updates_in};
 ghost use Rattle.bgp_session.specs.Moments.{Piece, expired_at, is_expired, joined};
 ghost use Rattle.bgp_session.specs.Sessions.{HasHeard, is_live};

@@ -1,7 +1,7 @@
 use crate::bird::{FIRST, LATER, SENT};
 use crate::{Session, Turn, Why};
-use acct_types::{Addr, Hop, List, NoMemory, Octets};
-use bgp_msg::{BgpFault, Update};
+use acct_types::{Addr, Hop, List, NoMemory, Octets, Update};
+use bgp_msg::BgpFault;
 use std::alloc::Global;
 use std::test::Fail;
 

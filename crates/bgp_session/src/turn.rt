@@ -1,6 +1,5 @@
 use crate::Why;
-use acct_types::{List, Octets};
-use bgp_msg::Update;
+use acct_types::{List, Octets, Update};
 
 /// What a piece of the peer's octets gives.
 #[derive(Debug, PartialEq, Eq, Drop)]

@@ -2,7 +2,7 @@
 -- capture: true one of flows, false one of routes.
 use Rattle.std.specs.Prelude.{ℕ, zero, suc, ◌+◌, Bool, true, false, List, [], ◌∷◌, length, take, drop, max, bytes_eq, codes, if◌then◌else◌, Ok, Err}
 use Rattle.acct_types.specs.declared.datagram.Datagram.{Datagram}
-use Rattle.outside_io.specs.declared.route_event.RouteEvent.{RouteEvent}
+use Rattle.acct_types.specs.declared.route_event.RouteEvent.{RouteEvent}
 use Rattle.capture_file.specs.declared.flows.CaptureEnd.{CaptureEnd}
 use Rattle.capture_file.specs.declared.flows.CaptureEnd.TheVariants.{Ended, BadMagic}
 use Rattle.capture_file.specs.Event.{judged, datagram_at, route_event_at, stamp_of}

@@ -6,12 +6,12 @@ use Rattle.acct_types.specs.Numbers.{number_at}
 use Rattle.acct_types.specs.declared.addr.Addr.{Addr}
 use Rattle.acct_types.specs.declared.addr.Addr.TheVariants.{V4, V6}
 use Rattle.acct_types.specs.declared.datagram.Datagram.{Datagram}
-use Rattle.outside_io.specs.declared.route_event.Side.{Side}
-use Rattle.outside_io.specs.declared.route_event.Side.TheVariants.{Bgp, Bmp}
-use Rattle.outside_io.specs.declared.route_event.Act.{Act}
-use Rattle.outside_io.specs.declared.route_event.Act.TheVariants.{Up, Bytes, Down, Tick}
-use Rattle.outside_io.specs.declared.route_event.RouteEvent.{RouteEvent}
-use Rattle.outside_io.specs.RouteEvents.{act_octets}
+use Rattle.acct_types.specs.declared.route_event.Side.{Side}
+use Rattle.acct_types.specs.declared.route_event.Side.TheVariants.{Bgp, Bmp}
+use Rattle.acct_types.specs.declared.route_event.Act.{Act}
+use Rattle.acct_types.specs.declared.route_event.Act.TheVariants.{Up, Bytes, Down, Tick}
+use Rattle.acct_types.specs.declared.route_event.RouteEvent.{RouteEvent}
+use Rattle.acct_types.specs.RouteEvents.{act_octets}
 use Rattle.capture_file.specs.declared.flows.CaptureEnd.{CaptureEnd}
 use Rattle.capture_file.specs.declared.flows.CaptureEnd.TheVariants.{Ended, BadKind, Torn, TooLong, TooMany}
 

@@ -2,7 +2,7 @@
 use Rattle.std.specs.Prelude.{ℕ, List, Option, Result}
 use Rattle.acct_types.specs.declared.datagram.Datagram.{Datagram}
 use Rattle.outside_io.specs.declared.input_fault.InputFault.{InputFault}
-use Rattle.outside_io.specs.declared.route_event.RouteEvent.{RouteEvent}
+use Rattle.acct_types.specs.declared.route_event.RouteEvent.{RouteEvent}
 use Rattle.capture_file.specs.declared.inputs.CaptureFlows.{CaptureFlows}
 use Rattle.capture_file.specs.declared.inputs.CaptureRoutes.{CaptureRoutes}
 use Rattle.capture_file.specs.declared.reader.CaptureReader.{CaptureReader}

@@ -3,12 +3,12 @@ use Rattle.std.specs.Prelude.{◌≡◌, ◌≤◌, ◌<◌, ◌^◌, ℕ, Bool,
 use Rattle.acct_types.specs.declared.addr.Addr.{Addr}
 use Rattle.acct_types.specs.declared.addr.Addr.TheVariants.{V4, V6}
 use Rattle.acct_types.specs.declared.datagram.Datagram.{Datagram}
-use Rattle.outside_io.specs.declared.route_event.Side.{Side}
-use Rattle.outside_io.specs.declared.route_event.Side.TheVariants.{Bgp}
-use Rattle.outside_io.specs.declared.route_event.Act.{Act}
-use Rattle.outside_io.specs.declared.route_event.Act.TheVariants.{Up, Bytes, Down, Tick}
-use Rattle.outside_io.specs.declared.route_event.RouteEvent.{RouteEvent}
-use Rattle.outside_io.specs.RouteEvents.{act_octets}
+use Rattle.acct_types.specs.declared.route_event.Side.{Side}
+use Rattle.acct_types.specs.declared.route_event.Side.TheVariants.{Bgp}
+use Rattle.acct_types.specs.declared.route_event.Act.{Act}
+use Rattle.acct_types.specs.declared.route_event.Act.TheVariants.{Up, Bytes, Down, Tick}
+use Rattle.acct_types.specs.declared.route_event.RouteEvent.{RouteEvent}
+use Rattle.acct_types.specs.RouteEvents.{act_octets}
 use Rattle.capture_file.specs.declared.flows.CaptureEnd.TheVariants.{Ended}
 use Rattle.capture_file.specs.Capture.{magic, datagrams_of, end_of, route_events_of, route_end_of}
 use Rattle.capture_file.specs.Event.{LONGEST, judged, spelling_of, route_spelling_of}

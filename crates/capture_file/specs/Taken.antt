@@ -6,7 +6,7 @@ use Rattle.outside_io.specs.Calls.{Calls, EndWith, handed_out}
 use Rattle.outside_io.specs.Inputs.{is_of_capture}
 use Rattle.outside_io.specs.Octets.{Takes}
 use Rattle.outside_io.specs.declared.input_fault.InputFault.{InputFault}
-use Rattle.outside_io.specs.declared.route_event.RouteEvent.{RouteEvent}
+use Rattle.acct_types.specs.declared.route_event.RouteEvent.{RouteEvent}
 use Rattle.capture_file.specs.declared.flows.CaptureEnd.{CaptureEnd}
 use Rattle.capture_file.specs.declared.flows.CaptureEnd.TheVariants.{Ended}
 use Rattle.capture_file.specs.declared.inputs.CaptureFlows.{CaptureFlows}

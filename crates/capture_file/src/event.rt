@@ -5,8 +5,7 @@ ghost use Rattle.capture_file.specs.Event.{act_of, address_of, address_width, da
 
 use crate::flows::CaptureEnd;
 use acct_types::numbers::{after, u16_at, u32_at, u64_at, u128_at};
-use acct_types::{Addr, Datagram, List, NoMemory, Octets};
-use outside_io::{Act, RouteEvent, Side};
+use acct_types::{Act, Addr, Datagram, List, NoMemory, Octets, RouteEvent, Side};
 use std::alloc::Global;
 
 const LONGEST: usize = 65535;

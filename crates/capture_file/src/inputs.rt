@@ -9,8 +9,8 @@ ghost use Rattle.capture_file.specs.Reader.{source_of, standing_of, IsFresh};
 ghost use Rattle.capture_file.specs.Reading.{fault_of};
 
 use crate::CaptureReader;
-use acct_types::{Addr, Datagram, NoMemory, Octets};
-use outside_io::{Datagrams, Flag, InputFault, IoFault, RouteEvent, Sessions, Side, Source};
+use acct_types::{Addr, Datagram, NoMemory, Octets, RouteEvent, Side};
+use outside_io::{Datagrams, Flag, InputFault, IoFault, Sessions, Source};
 
 /// The datagrams of a capture of flows. Once the capture ended it answers that end again, once a read or memory failed NoMemory.
 #[derive(Debug, Drop)]

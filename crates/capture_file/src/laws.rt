@@ -2,7 +2,7 @@
 
 ghost use Rattle.std.specs.Prelude.{◌≤◌, ◌+◌, All, ℕ, List, length, map, sum, true, false};
 ghost use Rattle.acct_types.specs.declared.datagram.Datagram.{Datagram};
-ghost use Rattle.outside_io.specs.declared.route_event.RouteEvent.{RouteEvent};
+ghost use Rattle.acct_types.specs.declared.route_event.RouteEvent.{RouteEvent};
 ghost use Rattle.capture_file.specs.Capture.{datagrams_of, route_events_of};
 ghost use Rattle.capture_file.specs.Event.{datagram_at, route_event_at, route_spelling_of, spelling_of};
 ghost use Rattle.capture_file.specs.Reading.{TakenIsUnique};

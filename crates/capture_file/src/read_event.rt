@@ -4,8 +4,7 @@ ghost use Rattle.std.specs.Prelude.{◌≡◌, ◌≤◌, ℕ, Bool, List, lengt
 ghost use Rattle.capture_file.specs.Event.{datagram_at, header_width, kind_of, route_event_at};
 
 use crate::event::{read_datagram, read_route_event};
-use acct_types::{Datagram, NoMemory};
-use outside_io::RouteEvent;
+use acct_types::{Datagram, NoMemory, RouteEvent};
 use std::alloc::Global;
 
 /// What the octets of a whole event are read as, behind a moment.

@@ -10,8 +10,8 @@ ghost use Rattle.capture_file.specs.declared.reader.Step.{Step};
 use crate::flows::CaptureEnd;
 use crate::read_event::ReadEvent;
 use crate::reading::Reading;
-use acct_types::{Datagram, NoMemory};
-use outside_io::{InputFault, IoFault, RouteEvent, Source};
+use acct_types::{Datagram, NoMemory, RouteEvent};
+use outside_io::{InputFault, IoFault, Source};
 use std::alloc::Global;
 
 /// What a reader hands out: the next event, or that the capture ends behind the one before.

@@ -1,12 +1,9 @@
 ghost use Rattle.std.specs.Prelude.{◌≤◌, length, IfOk};
-ghost use Rattle.outside_io.specs.RouteEvents.{act_octets};
+ghost use Rattle.acct_types.specs.RouteEvents.{act_octets};
 
-use crate::{
-    CaptureEnd, CaptureFlows, CaptureReader, CaptureRoutes, FlowCapture, Step, split_flows,
-    write_flow, write_magic, write_route,
-};
-use acct_types::{Addr, Datagram, List, NoMemory, Octets};
-use outside_io::{Act, Datagrams, InputFault, MemorySource, RouteEvent, Sessions, Side, Source};
+use crate::{CaptureEnd, CaptureFlows, CaptureReader, CaptureRoutes, FlowCapture, Step, split_flows, write_flow, write_magic, write_route};
+use acct_types::{Act, Addr, Datagram, List, NoMemory, Octets, RouteEvent, Side};
+use outside_io::{Datagrams, InputFault, MemorySource, Sessions, Source};
 use std::alloc::Global;
 use std::test::Fail;
 

@@ -1,12 +1,11 @@
 //! Captures as they are written.
 
 ghost use Rattle.std.specs.Prelude.{◌≡◌, ◌≤◌, ◌<◌, ◌+◌, ◌*◌, ◌^◌, ◌++◌, ◌∷◌, List as Sequence, ℕ, length, take, IfOk, OnOk, OnErr};
-ghost use Rattle.outside_io.specs.RouteEvents.{act_octets};
+ghost use Rattle.acct_types.specs.RouteEvents.{act_octets};
 ghost use Rattle.capture_file.specs.Capture.{magic};
 ghost use Rattle.capture_file.specs.Event.{address_spelling, event_spelling, high_half_spelling, low_half_spelling, route_spelling_of, spelling_of};
 
-use acct_types::{Addr, Datagram, NoMemory, Octets};
-use outside_io::{Act, RouteEvent, Side};
+use acct_types::{Act, Addr, Datagram, NoMemory, Octets, RouteEvent, Side};
 
 /// Appends the eight octets that a capture begins with. After NoMemory `out` is unchanged.
 pub fn write_magic(out: &mut Octets) -> Result<(), NoMemory>

@@ -19,10 +19,7 @@ use crate::plugins::start_plugins;
 use crate::rows::give_rows;
 use crate::{Job, Limits};
 use acct_types::{Addr, Datagram, List, NoMemory};
-use outside_io::{
-    Datagrams, InputFault, SideEnd, Sink, Which, adjoining_spans_join, calls_of_datagrams_join,
-    nothing_is_handed_out_in_no_time,
-};
+use outside_io::{Datagrams, InputFault, SideEnd, Sink, Which, adjoining_spans_join, calls_of_datagrams_join, nothing_is_handed_out_in_no_time};
 use plugin_work::Plugin;
 use std::alloc::Global;
 

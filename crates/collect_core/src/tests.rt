@@ -8,10 +8,7 @@ use crate::{Job, Limits, RunEnd, run_alone};
 use acct_types::{Addr, Counts, Datagram, List, NoMemory, Octets};
 use config_keys::{Config, Tool, read_config};
 use out_text::Totals;
-use outside_io::{
-    Datagrams, InputFault, IoFault, MemoryFlows, MemorySink, NoRoutes, OutEnd, SideEnd, Sink,
-    Which, can_come,
-};
+use outside_io::{Datagrams, InputFault, IoFault, MemoryFlows, MemorySink, NoRoutes, OutEnd, SideEnd, Sink, Which, can_come};
 use pretag_map::{SamplingMap, TagMap};
 use std::alloc::Global;
 use std::sync::Arc;

@@ -1,7 +1,4 @@
-use crate::{
-    Config, ConfigCause, ConfigFault, PluginConfig, PluginKind, Tool, UsageFault, Words,
-    has_output, read_config, read_words,
-};
+use crate::{Config, ConfigCause, ConfigFault, PluginConfig, PluginKind, Tool, UsageFault, Words, has_output, read_config, read_words};
 use acct_types::{Addr, AsFrom, Column, Layout, Primitives, Text};
 use std::alloc::{AllocError, Global};
 use std::test::Fail;

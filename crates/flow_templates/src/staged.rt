@@ -6,9 +6,7 @@ ghost use Rattle.flow_templates.specs.Known.{known_after, known_in, learned_of, 
 ghost use Rattle.flow_templates.specs.Templates.{is_accepted};
 
 use crate::noted::{NotedChanges, NotedRates};
-use crate::{
-    Domain, LearnedRate, OptionStore, RateKey, Template, TemplateChange, TemplateKey, TemplateStore,
-};
+use crate::{Domain, LearnedRate, OptionStore, RateKey, Template, TemplateChange, TemplateKey, TemplateStore};
 use acct_types::NoMemory;
 use std::alloc::Global;
 use std::marker::Model;

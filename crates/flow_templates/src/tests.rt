@@ -1,10 +1,7 @@
 ghost use Rattle.std.specs.Prelude.{◌≡◌, true, IfOk};
 ghost use Rattle.flow_templates.specs.Templates.{is_accepted};
 
-use crate::{
-    Domain, Staged, Stores, Template, TemplateFault, TemplateTurn, TemplateWhat,
-    read_options_template, read_template,
-};
+use crate::{Domain, Staged, Stores, Template, TemplateFault, TemplateTurn, TemplateWhat, read_options_template, read_template};
 use acct_types::Addr;
 use std::alloc::Global;
 use std::test::Fail;

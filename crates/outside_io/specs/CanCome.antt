@@ -1,8 +1,8 @@
 -- Which events an input can hand out.
 use Rattle.std.specs.Prelude.{ℕ, Bool, true, List, [], ◌∷◌, length, nat_le, ◌&&◌}
 use Rattle.acct_types.specs.declared.datagram.Datagram.{Datagram}
-use Rattle.outside_io.specs.RouteEvents.{act_octets}
-use Rattle.outside_io.specs.declared.route_event.RouteEvent.{RouteEvent}
+use Rattle.acct_types.specs.RouteEvents.{act_octets}
+use Rattle.acct_types.specs.declared.route_event.RouteEvent.{RouteEvent}
 
 -- Whether an input can hand out these events after that moment: none has an earlier moment than the one before it, and each has at
 -- most 65,535 octets.

@@ -8,7 +8,6 @@ pub mod MemoryPlace
 pub mod SayOut
 pub mod FilePlace
 pub mod Inputs
-pub mod RouteEvents
 pub mod Spans
 pub mod Calls
 pub mod CanCome

@@ -5,8 +5,8 @@ use Rattle.outside_io.specs.EventQueue.{queue_left, queue_moment, queue_plan, qu
 use Rattle.outside_io.specs.declared.call_plan.CallPlan.{CallPlan}
 use Rattle.outside_io.specs.declared.memory_inputs.MemoryFlows.{MemoryFlows}
 use Rattle.outside_io.specs.declared.memory_inputs.MemorySessions.{MemorySessions}
-use Rattle.outside_io.specs.declared.route_event.RouteEvent.{RouteEvent}
-use Rattle.outside_io.specs.declared.route_event.Sent.{Sent}
+use Rattle.acct_types.specs.declared.route_event.RouteEvent.{RouteEvent}
+use Rattle.acct_types.specs.declared.route_event.Reply.{Reply}
 
 abbrev pub flows_left : MemoryFlows → List Datagram
 flows_left flows = queue_left flows.datagrams
@@ -33,7 +33,7 @@ sessions_plan sessions = queue_plan sessions.events
 abbrev pub sessions_faults : MemorySessions → ℕ
 sessions_faults sessions = queue_faults sessions.events
 
-abbrev pub sessions_sent : MemorySessions → List Sent
+abbrev pub sessions_sent : MemorySessions → List Reply
 sessions_sent sessions = sessions.sent
 
 -- which of the calls of `reply` are to fail

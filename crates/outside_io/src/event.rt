@@ -1,9 +1,8 @@
 ghost use Rattle.std.specs.Prelude.{◌≡◌, ℕ, List, length};
 ghost use Rattle.outside_io.specs.CanCome.{can_come};
-ghost use Rattle.outside_io.specs.RouteEvents.{act_octets};
+ghost use Rattle.acct_types.specs.RouteEvents.{act_octets};
 
-use crate::{Act, RouteEvent};
-use acct_types::Datagram;
+use acct_types::{Act, Datagram, RouteEvent};
 
 /// What an input hands out: it has a moment in milliseconds, and octets, none where it brings none.
 pub trait InputEvent {

@@ -2,13 +2,13 @@ ghost use Rattle.std.specs.Prelude.{◌≡◌, ◌≤◌, ◌∷◌, [], ℕ, Li
 ghost use Rattle.acct_types.specs.declared.datagram.Datagram.{Datagram};
 ghost use Rattle.outside_io.specs.Causes.{HasCause};
 ghost use Rattle.outside_io.specs.Inputs.{prepend_told, append_told, given, MatchGiven, IfGiven, EndsAs, HasInputCause, is_of_capture};
-ghost use Rattle.outside_io.specs.RouteEvents.{act_octets};
+ghost use Rattle.acct_types.specs.RouteEvents.{act_octets};
 ghost use Rattle.outside_io.specs.declared.input_fault.InputFault.{InputFault};
-ghost use Rattle.outside_io.specs.declared.route_event.RouteEvent.{RouteEvent};
-ghost use Rattle.outside_io.specs.declared.route_event.Sent.{Sent};
+ghost use Rattle.acct_types.specs.declared.route_event.RouteEvent.{RouteEvent};
+ghost use Rattle.acct_types.specs.declared.route_event.Reply.{Reply};
 
-use crate::{Flag, InputFault, IoFault, RouteEvent, Side};
-use acct_types::{Addr, Datagram, NoMemory, Octets};
+use crate::{Flag, InputFault, IoFault};
+use acct_types::{Addr, Datagram, NoMemory, Octets, RouteEvent, Side};
 
 /// Where datagrams come from, one a call.
 pub trait Datagrams {
@@ -68,7 +68,7 @@ pub trait Sessions: Drop {
     ghost captured: { Self → Bool };
 
     /// The replies sent so far, where it tells them.
-    ghost sent: { Self → Option (List Sent) };
+    ghost sent: { Self → Option (List Reply) };
 
     /// How often a reply failed. It never falls.
     ghost reply_faults: { Self → ℕ };
@@ -94,7 +94,7 @@ pub trait Sessions: Drop {
     /// Sends octets to the router of that address. After an error none of them counts as sent.
     fn reply(&mut self, side: Side, to: &Addr, octets: &Octets) -> Result<(), IoFault>
         ensures sent { MatchResult result
-            (λ _. sent self.new ≡ append_told (sent self.old) (record { side = side; address = to.now; octets = octets.now } ∷ []))
+            (λ _. sent self.new ≡ append_told (sent self.old) (record { side = side; to = to.now; octets = octets.now } ∷ []))
             (λ _. sent self.new ≡ sent self.old) }
         ensures cause { HasCause (reply_faults self.old) (reply_faults self.new) result }
         ensures left { left self.new ≡ left self.old }

@@ -15,7 +15,6 @@ mod memory_inputs;
 mod memory_place;
 mod named;
 mod no_routes;
-mod route_event;
 mod shape;
 mod spans;
 mod traits;
@@ -33,7 +32,6 @@ pub use memory::{MemorySink, MemorySource};
 pub use memory_inputs::{MemoryFlows, MemorySessions};
 pub use memory_place::MemoryPlace;
 pub use no_routes::NoRoutes;
-pub use route_event::{Act, RouteEvent, Sent, Side};
 pub use spans::{
     adjoining_spans_join, calls_of_datagrams_join, calls_of_sessions_join,
     nothing_is_handed_out_in_no_time, what_is_handed_out_is_unique,

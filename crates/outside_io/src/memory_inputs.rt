@@ -4,11 +4,11 @@ ghost use Rattle.outside_io.specs.Causes.{HasCause};
 ghost use Rattle.outside_io.specs.EventQueue.{queue_left, queue_moment, queue_plan, queue_faults};
 ghost use Rattle.outside_io.specs.Inputs.{prepend_told, append_told, given, MatchGiven, IfGiven, EndsAs, HasInputCause, is_of_capture};
 ghost use Rattle.outside_io.specs.Plan.{plan_of, after_call, FailsNext, FailsWhere, ReadFailsWhere};
-ghost use Rattle.outside_io.specs.RouteEvents.{act_octets};
+ghost use Rattle.acct_types.specs.RouteEvents.{act_octets};
 
 use crate::event_queue::EventQueue;
-use crate::{CallPlan, Datagrams, Flag, InputFault, IoFault, RouteEvent, Sent, Sessions, Side};
-use acct_types::{Addr, Datagram, List, NoMemory, Octets};
+use crate::{CallPlan, Datagrams, Flag, InputFault, IoFault, Sessions};
+use acct_types::{Addr, Datagram, List, NoMemory, Octets, Reply, RouteEvent, Side};
 use std::alloc::Global;
 
 /// Datagrams in memory, of which some calls fail. They end by themselves.
@@ -73,7 +73,7 @@ impl Datagrams for MemoryFlows {
 pub struct MemorySessions {
     alloc: Global,
     events: EventQueue<RouteEvent>,
-    sent: List<Sent>,
+    sent: List<Reply>,
     reply_plan: CallPlan,
     reply_faults: u64,
     ghost can_come: { route_events_can_come (queue_moment events) (queue_left events) ≡ true },
@@ -110,7 +110,7 @@ impl MemorySessions {
     }
 
     /// The replies sent so far.
-    pub fn sent(&self) -> &List<Sent>
+    pub fn sent(&self) -> &List<Reply>
         ensures { result.now ≡ sessions_sent self.now }
     {
         &self.sent
@@ -161,7 +161,7 @@ impl Sessions for MemorySessions {
     fn reply(&mut self, side: Side, to: &Addr, octets: &Octets) -> Result<(), IoFault>
         ensures sent { MatchResult result
             (λ _. Some (sessions_sent self.new) ≡
-            append_told (Some (sessions_sent self.old)) (record { side = side; address = to.now; octets = octets.now } ∷ []))
+            append_told (Some (sessions_sent self.old)) (record { side = side; to = to.now; octets = octets.now } ∷ []))
             (λ _. Some (sessions_sent self.new) ≡ Some (sessions_sent self.old)) }
         ensures cause { HasCause (sessions_reply_faults self.old) (sessions_reply_faults self.new) result }
         ensures left { sessions_left self.new ≡ sessions_left self.old }
@@ -177,9 +177,9 @@ impl Sessions for MemorySessions {
             return Err(IoFault::Failed);
         }
         let octets = octets.copy()?;
-        self.sent.push(Sent {
+        self.sent.push(Reply {
             side,
-            address: *to,
+            to: *to,
             octets,
         })?;
         Ok(())

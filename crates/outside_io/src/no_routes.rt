@@ -1,7 +1,7 @@
 ghost use Rattle.std.specs.Prelude.{◌≡◌, [], None, Some, Ok, false, IsOk};
 
-use crate::{Flag, InputFault, IoFault, RouteEvent, Sessions, Side};
-use acct_types::{Addr, NoMemory, Octets};
+use crate::{Flag, InputFault, IoFault, Sessions};
+use acct_types::{Addr, NoMemory, Octets, RouteEvent, Side};
 use std::alloc::Global;
 
 /// Sessions of which nothing comes. What is replied is dropped.

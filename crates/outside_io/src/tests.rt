@@ -1,9 +1,9 @@
 use crate::{
-    Act, Begin, Datagrams, FilePlace, Flag, InputFault, IoFault, MemoryFlows, MemoryPlace,
-    MemorySessions, MemorySink, MemorySource, NoRoutes, Place, RouteEvent, Sessions, Side, Sink,
-    Source, can_come, read_all, read_name, write_all,
+    Begin, Datagrams, FilePlace, Flag, InputFault, IoFault, MemoryFlows, MemoryPlace,
+    MemorySessions, MemorySink, MemorySource, NoRoutes, Place, Sessions, Sink, Source, can_come,
+    read_all, read_name, write_all,
 };
-use acct_types::{Addr, Datagram, List, Octets, Text};
+use acct_types::{Act, Addr, Datagram, List, Octets, RouteEvent, Side, Text};
 use std::alloc::Global;
 use std::fs::remove_file;
 use std::test::Fail;
@@ -301,7 +301,7 @@ fn sessions_give_their_events_and_keep_the_replies(rt: HostRuntime) -> Result<()
     let sent = sessions.sent().as_slice();
     assert!(rt; sent.len() == 2);
     for (reply, octets) in sent.iter().zip([b"b", b"d"]) {
-        assert!(rt; reply.side == Side::Bgp && reply.address == Addr::V4(3));
+        assert!(rt; reply.side == Side::Bgp && reply.to == Addr::V4(3));
         assert!(rt; same(reply.octets.as_slice(), octets));
     }
     Ok(())

@@ -11,10 +11,10 @@ use Rattle.pretag_map.specs.Values.{address_given, network_given}
 use Rattle.pretag_map.specs.declared.fault.MapCause.{MapCause}
 use Rattle.pretag_map.specs.declared.fault.MapCause.TheVariants.{MissingKey}
 use Rattle.pretag_map.specs.declared.fault.MapFault.{MapFault}
-use Rattle.pretag_map.specs.declared.rib.Rib.{Rib}
-use Rattle.pretag_map.specs.declared.rib.Rib.TheVariants as rib
-use Rattle.pretag_map.specs.declared.rib.Side.{Side}
-use Rattle.pretag_map.specs.declared.rib.Side.TheVariants.{Bgp, Bmp}
+use Rattle.acct_types.specs.declared.rib.Rib.{Rib}
+use Rattle.acct_types.specs.declared.rib.Rib.TheVariants as rib
+use Rattle.acct_types.specs.declared.route_event.Side.{Side}
+use Rattle.acct_types.specs.declared.route_event.Side.TheVariants.{Bgp, Bmp}
 
 -- the exporters of a line, the router whose routes are theirs, and the peer of it whose routes alone are taken
 pub record AgentLine : Type 0 where

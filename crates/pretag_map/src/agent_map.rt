@@ -7,10 +7,9 @@ ghost use Rattle.pretag_map.specs.Rules.{RulesAre};
 use crate::fault::{MapCause, MapFault};
 use crate::judge::line_members;
 use crate::keys::agent_keys;
-use crate::rib::{Rib, Side};
 use crate::rules::{Rule, read_rules};
 use crate::value::{address_given, network_given};
-use acct_types::{Addr, List, NoMemory, Prefix};
+use acct_types::{Addr, List, NoMemory, Prefix, Rib, Side};
 use std::alloc::Global;
 use std::marker::Model;
 

@@ -1,8 +1,5 @@
-use crate::{
-    AgentMap, MapCause, MapFault, Rib, SamplingMap, Side, TagFacts, TagMap, Tags, is_label,
-    read_agent_map, read_map, read_sampling_map,
-};
-use acct_types::{Addr, NoMemory, Octets};
+use crate::{AgentMap, MapCause, MapFault, SamplingMap, TagFacts, TagMap, Tags, is_label, read_agent_map, read_map, read_sampling_map};
+use acct_types::{Addr, NoMemory, Octets, Rib, Side};
 use std::alloc::Global;
 use std::test::Fail;
 

@@ -1,6 +1,7 @@
 use Rattle.std.proofs.Common.{◌≡◌, ◌++◌, length}
 use Rattle.std.specs.Prelude.{None, map}
-use Rattle.bgp_msg.specs.Prefixes.{bad_prefix, nlri_view, prefixes_in}
+use Rattle.acct_types.specs.Updates.{nlri_view}
+use Rattle.bgp_msg.specs.Prefixes.{bad_prefix, prefixes_in}
 use Rattle.bgp_msg.proofs.prefixes.read_prefixes.Given as goal
 
 -- the prefixes so far and those of the rest are all of them

@@ -1,7 +1,8 @@
 use Rattle.std.proofs.Common.{◌≡◌, ◌++◌, length}
 use Rattle.std.specs.Prelude.{None, map}
+use Rattle.acct_types.specs.Updates.{route_view}
 use Rattle.bgp_msg.specs.Prefixes.{bad_prefix, prefixes_in}
-use Rattle.bgp_msg.specs.Routes.{route_view, routes}
+use Rattle.bgp_msg.specs.Routes.{routes}
 use Rattle.bgp_msg.proofs.prefixes.read_routes.Given as goal
 
 -- the routes so far and those of the rest are all of them

@@ -1,7 +1,7 @@
 use Rattle.std.proofs.Common.{◌≡◌, ◌∙◌, ◌++◌, ap, arith, subst, sym}
 use Rattle.std.specs.Prelude.{Bool, List, ℕ, ◌||◌, map, is_none, not, true, ◌==◌}
-use Rattle.bgp_msg.specs.Updates.{Said, update_view}
-use Rattle.bgp_msg.specs.declared.message.Update.{Update}
+use Rattle.acct_types.specs.Updates.{Said, update_view}
+use Rattle.acct_types.specs.declared.update.Update.{Update}
 use Rattle.bgp_session.specs.Lives.{replies_to, updates_in}
 use Rattle.bgp_session.specs.Moments.{Piece, joined}
 use Rattle.bgp_session.specs.Sessions.{HasHeard, SessionState, is_live, is_over}

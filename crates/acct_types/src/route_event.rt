@@ -1,4 +1,4 @@
-use acct_types::{Addr, Octets};
+use crate::{Addr, Octets};
 
 /// What a router speaks on a session: BGP (RFC 4271), or BMP (RFC 7854).
 #[derive(Clone, Copy, Debug, PartialEq, Eq)]
@@ -26,10 +26,10 @@ pub struct RouteEvent {
     pub act: Act,
 }
 
-/// Octets that were sent to a router on its session.
+/// Octets for a router, on its session.
 #[derive(Debug, Drop)]
-pub struct Sent {
+pub struct Reply {
     pub side: Side,
-    pub address: Addr,
+    pub to: Addr,
     pub octets: Octets,
 }
