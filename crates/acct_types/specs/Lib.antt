@@ -11,4 +11,5 @@ pub mod Prefixes
 pub mod Primitives
 pub mod RouteEvents
 pub mod Routes
+pub mod StandingRoutes
 pub mod Updates

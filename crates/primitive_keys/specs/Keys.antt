@@ -1,6 +1,7 @@
 -- Keys of records.
 use Rattle.std.specs.Prelude.{ℕ, List, [], Option, map}
 use Rattle.acct_types.specs.Primitives.{columns_of}
+use Rattle.acct_types.specs.StandingRoutes.{StandingRoute}
 use Rattle.acct_types.specs.declared.cell.Cell.{Cell}
 use Rattle.acct_types.specs.declared.cell.Cell.TheVariants.{Number, Address, Mac, Words}
 use Rattle.acct_types.specs.declared.choice.AsFrom.{AsFrom}
@@ -8,7 +9,6 @@ use Rattle.acct_types.specs.declared.flow.FlowRecord.{FlowRecord}
 use Rattle.acct_types.specs.declared.primitives.Column.{Column}
 use Rattle.acct_types.specs.declared.primitives.Column.TheVariants.{Tag, Tag2, Label, AcctWindow, SrcMac, DstMac, Vlan, SrcAs, DstAs, StdComm, AsPath, LocalPref, Med, PeerDstAs, PeerSrcIp, PeerDstIp, InIface, OutIface, SrcHost, DstHost, SrcNet, DstNet, SrcMask, DstMask, SrcPort, DstPort, Proto, Tos}
 use Rattle.acct_types.specs.declared.primitives.Primitives.{Primitives}
-use Rattle.acct_types.specs.declared.route.RouteRef.{RouteRef}
 use Rattle.pretag_map.specs.declared.facts.Tags.{Tags}
 use Rattle.primitive_keys.specs.Routing.{chosen, communities_of, first_system, local_pref_of, mask_of, med_of, next_hop_of, path_of, system_of}
 use Rattle.primitive_keys.specs.Values.{address_in, mac_in, net_of, number_in, words_in}
@@ -16,7 +16,7 @@ use Rattle.primitive_keys.specs.Values.{address_in, mac_in, net_of, number_in, w
 -- What a record has in a column, by where its routing parts come from, the routes to its source and to its destination, its
 -- tags and their label, and the first moment of its window. But for the source's system, mask and net, a route is the
 -- destination's.
-abbrev pub cell_in : FlowRecord → AsFrom → Option RouteRef → Option RouteRef → Tags → Option (List ℕ) → ℕ → Column → Cell
+abbrev pub cell_in : FlowRecord → AsFrom → Option StandingRoute → Option StandingRoute → Tags → Option (List ℕ) → ℕ → Column → Cell
 cell_in r from src dst tags label window Tag = Number tags.tag
 cell_in r from src dst tags label window Tag2 = Number tags.tag2
 cell_in r from src dst tags label window Label = Words (words_in label)
@@ -47,5 +47,5 @@ cell_in r from src dst tags label window Proto = Number (number_in r.proto)
 cell_in r from src dst tags label window Tos = Number (number_in r.tos)
 
 -- the cells of the columns that are asked for, in their order
-unfoldable pub key_cells_of : Primitives → FlowRecord → AsFrom → Option RouteRef → Option RouteRef → Tags → Option (List ℕ) → ℕ → List Cell
+unfoldable pub key_cells_of : Primitives → FlowRecord → AsFrom → Option StandingRoute → Option StandingRoute → Tags → Option (List ℕ) → ℕ → List Cell
 key_cells_of p r from src dst tags label window = map (cell_in r from src dst tags label window) (columns_of p)

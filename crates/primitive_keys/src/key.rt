@@ -1,5 +1,6 @@
 ghost use Rattle.std.specs.Prelude.{◌≡◌, true, IfOk, IfSome};
-ghost use Rattle.std.specs.Option.{option_copied};
+ghost use Rattle.std.specs.Option.{option_copied, option_map};
+ghost use Rattle.acct_types.specs.StandingRoutes.{route_ref_view};
 ghost use Rattle.pretag_map.specs.Labels.{is_label};
 ghost use Rattle.primitive_keys.specs.Keys.{key_cells_of};
 
@@ -24,7 +25,7 @@ pub fn key_of(
     window: u64,
 ) -> Result<Key, NoMemory>
     requires { IfSome label (λ words. is_label words.now ≡ true) }
-    ensures { IfOk result (λ key. key ≡ key_cells_of p.now r.now from (option_copied src.entry) (option_copied dst.entry)
+    ensures { IfOk result (λ key. key ≡ key_cells_of p.now r.now from (option_map route_ref_view (option_copied src.entry)) (option_map route_ref_view (option_copied dst.entry))
         tags.now (option_copied label.entry) window) }
 {
     let sources = Sources {

@@ -1,5 +1,6 @@
 ghost use Rattle.std.specs.Prelude.{◌≡◌};
-ghost use Rattle.std.specs.Option.{option_copied};
+ghost use Rattle.std.specs.Option.{option_copied, option_map};
+ghost use Rattle.acct_types.specs.StandingRoutes.{route_ref_view};
 ghost use Rattle.primitive_keys.specs.Facts.{facts_of};
 
 use crate::routing::system_of;
@@ -15,7 +16,7 @@ pub fn facts(
     src: Option<&RouteRef<'_>>,
     dst: Option<&RouteRef<'_>>,
 ) -> TagFacts
-    ensures { result ≡ facts_of r.now from (option_copied src.entry) (option_copied dst.entry) }
+    ensures { result ≡ facts_of r.now from (option_map route_ref_view (option_copied src.entry)) (option_map route_ref_view (option_copied dst.entry)) }
 {
     TagFacts {
         exporter: r.exporter,

@@ -1,5 +1,6 @@
 ghost use Rattle.std.specs.Prelude.{◌≡◌, ◌++◌, ◌∷◌, [], true, IfSome, OnOk};
-ghost use Rattle.std.specs.Option.{option_copied};
+ghost use Rattle.std.specs.Option.{option_copied, option_map};
+ghost use Rattle.acct_types.specs.StandingRoutes.{route_ref_view};
 ghost use Rattle.acct_types.specs.declared.cell.Cell.TheVariants as cell;
 ghost use Rattle.pretag_map.specs.Labels.{is_label};
 ghost use Rattle.primitive_keys.specs.Keys.{cell_in};
@@ -32,7 +33,7 @@ impl Sources<'_> {
     pub fn push(&self, key: &mut Key, column: Column) -> Result<(), NoMemory>
         requires { IfSome self.now.label (λ words. is_label words.now ≡ true) }
         ensures { OnOk result (key.new ≡ key.old ++ cell_in self.now.record.now self.now.from
-            (option_copied self.now.src) (option_copied self.now.dst) self.now.tags.now
+            (option_map route_ref_view (option_copied self.now.src)) (option_map route_ref_view (option_copied self.now.dst)) self.now.tags.now
             (option_copied self.now.label) self.now.window column ∷ []) }
     {
         let (r, from) = (self.record, self.from);
@@ -89,7 +90,7 @@ fn push_label(key: &mut Key, label: Option<&Text>) -> Result<(), NoMemory>
 }
 
 fn push_path(alloc: Global, key: &mut Key, route: Option<&RouteRef<'_>>) -> Result<(), NoMemory>
-    ensures { OnOk result (key.new ≡ key.old ++ cell.Words (path_of (option_copied route.entry)) ∷ []) }
+    ensures { OnOk result (key.new ≡ key.old ++ cell.Words (path_of (option_map route_ref_view (option_copied route.entry))) ∷ []) }
 {
     let Some(route) = route else {
         return key.push_words(&[]);
@@ -104,7 +105,7 @@ fn push_communities(
     key: &mut Key,
     route: Option<&RouteRef<'_>>,
 ) -> Result<(), NoMemory>
-    ensures { OnOk result (key.new ≡ key.old ++ cell.Words (communities_of (option_copied route.entry)) ∷ []) }
+    ensures { OnOk result (key.new ≡ key.old ++ cell.Words (communities_of (option_map route_ref_view (option_copied route.entry))) ∷ []) }
 {
     let Some(route) = route else {
         return key.push_words(&[]);

@@ -1,5 +1,8 @@
 use crate::{facts, key_of};
-use acct_types::{Addr, AsFrom, CellRef, Column, Counts, FlowRecord, Hop, List, NoMemory, Prefix, Primitives, RouteAttrs, RouteRef, Text};
+use acct_types::{
+    Addr, AsFrom, CellRef, Column, Counts, FlowRecord, Hop, List, NoMemory, Prefix, Primitives,
+    RouteAttrs, RouteRef, Text,
+};
 use pretag_map::{TagFacts, Tags, is_label};
 use std::alloc::Global;
 use std::test::Fail;
