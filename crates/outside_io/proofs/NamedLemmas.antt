@@ -1,9 +1,9 @@
 -- On the value of a name.
-use Rattle.std.proofs.Common.{◌≡◌, ◌≢◌, ◌≤◌, ◌-◌, ℕ, List, [], ◌∷◌, ◌++◌, ◌<◌, ◌+◌, suc, set, add-one, get_or, true, false, Option, Some, refl, ap, sym, ◌∙◌, arith, cond, length, take, length-append}
+use Rattle.std.proofs.Common.{◌≡◌, ◌≢◌, ◌≤◌, ◌-◌, ℕ, List, [], ◌∷◌, ◌++◌, ◌<◌, ◌+◌, suc, set, add-one, get_or, true, false, Option, Some, refl, ap, sym, ◌∙◌, arith, cond, length, take, length-append, append-nil}
 use Rattle.std.specs.Str.{bytes_eq}
 use Rattle.std.proofs.lemmas.Slice.Eq.{bytes_eq-Decides}
 use Rattle.outside_io.specs.declared.named.Named.{Named}
-use Rattle.outside_io.specs.Named.{value_of, place_of, PutsNamed}
+use Rattle.outside_io.specs.Named.{value_of, values_of, place_of, PutsNamed}
 use Rattle.outside_io.specs.Names.{Puts}
 use Rattle.std.proofs.lemmas.List.{take_at}
 use Rattle.std.proofs.lemmas.Grind.{common_steps}
@@ -86,6 +86,25 @@ PutsNamed-push old new kept name value same none e = record {
   here = ap (λ items. value_of items name) e ∙ value_of-push_same old (record { name = kept; value = value }) name none (ap (λ n. bytes_eq n name) same ∙ same_name name);
   others = λ other differ. ap (λ items. value_of items other) e ∙ value_of-push_other old (record { name = kept; value = value }) other (ap (λ n. bytes_eq n other) same ∙ other_name name other differ);
 }
+
+values_of-push : {T : Type 0} (items : List (Named T)) (item : Named T) (name : List ℕ) → values_of (items ++ item ∷ []) name ≡ values_of items name ++ values_of (item ∷ []) name
+values_of-push [] item name = refl
+values_of-push (x ∷ xs) item name =
+    elim (bytes_eq x.name name) as (λ b. cond b (x.value ∷ values_of (xs ++ item ∷ []) name) (values_of (xs ++ item ∷ []) name) ≡ cond b (x.value ∷ values_of xs name) (values_of xs name) ++ values_of (item ∷ []) name) [
+      | true ↦ ap (λ values. x.value ∷ values) (values_of-push xs item name)
+      | false ↦ values_of-push xs item name
+    ]
+
+-- the name has one value more, behind those that it had
+pub Puts-push : (old new : List (Named (List ℕ))) (kept name value wanted : List ℕ) → kept ≡ name → value ≡ wanted → new ≡ old ++ record { name = kept; value = value } ∷ [] → Puts (values_of old) (values_of new) name (values_of old name ++ wanted ∷ [])
+Puts-push old new kept name value wanted same is e =
+    let item : Named (List ℕ) = record { name = kept; value = value } in
+    record {
+      here = ap (λ items. values_of items name) e ∙ values_of-push old item name ∙ ap (λ values. values_of old name ++ values)
+          (ap (λ b. cond b (value ∷ []) []) (ap (λ n. bytes_eq n name) same ∙ same_name name) ∙ ap (λ v. v ∷ []) is);
+      others = λ other differ. ap (λ items. values_of items other) e ∙ values_of-push old item other ∙ ap (λ values. values_of old other ++ values)
+          (ap (λ b. cond b (value ∷ []) []) (ap (λ n. bytes_eq n other) same ∙ other_name name other differ)) ∙ append-nil (values_of old other);
+    }
 
 -- nothing is written to the name behind what it starts with
 pub Puts-start : {old new : List (Named (List ℕ))} {name value : List ℕ} (start : List ℕ) → value ≡ start → PutsNamed old new name value → Puts (value_of old) (value_of new) name (Some (start ++ []))

@@ -1,5 +1,5 @@
 -- What a call of an input hands out, and when it says that nothing more comes.
-use Rattle.std.specs.Prelude.{◌≡◌, ◌≤◌, ℕ, Bool, true, false, ⊤, List, [], ◌∷◌, ◌++◌, Option, Some, None, Result, Ok, Err, IsErrOf}
+use Rattle.std.specs.Prelude.{◌≡◌, ◌≤◌, ℕ, Bool, true, false, ⊤, List, [], ◌∷◌, ◌++◌, Option, Some, None, IsTrue, Result, Ok, Err, IfErr, IsErrOf}
 use Rattle.std.specs.Option.{option_map}
 use Rattle.outside_io.specs.Causes.{Rose}
 use Rattle.outside_io.specs.declared.input_fault.InputFault.{InputFault}
@@ -43,11 +43,25 @@ EndsAs left ending (Err ReadFault) = ⊤
 EndsAs left ending (Err NoMemory) = ⊤
 EndsAs left ending (Err fault) = IsAtEndWith left ending (Some fault)
 
+-- It has ended once a call answers None. Every other answer leaves that as it was.
+abbrev pub EndsHere : {T : Type 0} → Bool → Bool → Result (Option T) InputFault → Type 0
+EndsHere before now (Ok (Some event)) = now ≡ before
+EndsHere before now (Ok None) = now ≡ true
+EndsHere before now (Err fault) = now ≡ before
+
+-- The moment is that of the event handed out, which isn't before the one that it was. It stays where none is handed out.
+abbrev pub MovesOn : {T : Type 0} → (T → ℕ) → ℕ → ℕ → Result (Option T) InputFault → Type 0
+MovesOn moment_of before now result = MatchGiven result (λ event. (before ≤ moment_of event) × (now ≡ moment_of event)) (now ≡ before)
+
 -- whether a fault says that a capture isn't well formed, or has too many octets
 abbrev pub is_of_capture : InputFault → Bool
 is_of_capture ReadFault = false
 is_of_capture NoMemory = false
 is_of_capture fault = true
+
+-- a fault of a capture is answered only by what reads one
+abbrev pub OnlyOfCapture : {T : Type 0} → Bool → Result T InputFault → Type 0
+OnlyOfCapture captured result = IfErr result (λ fault. IsTrue (is_of_capture fault) → IsTrue captured)
 
 -- the number never falls, and `ReadFault` is answered only where it rose
 pub record HasInputCause {T : Type 0} (before now : ℕ) (result : Result T InputFault) : Type 0 where

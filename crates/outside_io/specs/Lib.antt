@@ -2,6 +2,7 @@ pub mod Causes
 pub mod Octets
 pub mod Names
 pub mod Named
+pub mod States
 pub mod Plan
 pub mod Memory
 pub mod MemoryPlace
@@ -13,3 +14,4 @@ pub mod Calls
 pub mod CanCome
 pub mod EventQueue
 pub mod MemoryInputs
+pub mod NoRoutes

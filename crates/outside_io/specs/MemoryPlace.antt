@@ -1,7 +1,8 @@
 -- What a place in memory holds, what its sources and sinks are made with, and which of its calls fail.
 use Rattle.std.specs.Prelude.{◌≡◌, ◌≢◌, ℕ, ◌-◌, ◌^◌, List, [], Option, None, Some}
-use Rattle.outside_io.specs.Named.{value_of, count_of}
+use Rattle.outside_io.specs.Named.{value_of, values_of, count_of}
 use Rattle.outside_io.specs.Names.{Names}
+use Rattle.outside_io.specs.States.{PlaceState}
 use Rattle.outside_io.specs.declared.call_plan.CallPlan.{CallPlan}
 use Rattle.outside_io.specs.declared.memory_place.MemoryPlace.{MemoryPlace}
 use Rattle.outside_io.specs.declared.shape.Shape.{Shape}
@@ -9,8 +10,9 @@ use Rattle.outside_io.specs.declared.shape.Shape.{Shape}
 abbrev pub place_names : MemoryPlace → Names
 place_names place = value_of place.files
 
-abbrev pub place_taken : MemoryPlace → Names
-place_taken place = value_of place.taken
+-- what each close of an input of the name took, in order
+abbrev pub place_taken : MemoryPlace → List ℕ → List (List ℕ)
+place_taken place = values_of place.taken
 
 abbrev pub place_open_faults : MemoryPlace → List ℕ → ℕ
 place_open_faults place = count_of place.open_faults
@@ -20,6 +22,15 @@ place_read_faults place = count_of place.read_faults
 
 abbrev pub place_write_faults : MemoryPlace → List ℕ → ℕ
 place_write_faults place = count_of place.write_faults
+
+abbrev pub place_state : MemoryPlace → PlaceState
+place_state place = record {
+  names = place_names place;
+  taken = place_taken place;
+  opens = place_open_faults place;
+  reads = place_read_faults place;
+  writes = place_write_faults place;
+}
 
 -- which of the calls that open a name are to fail
 abbrev pub place_opens : MemoryPlace → CallPlan

@@ -9,6 +9,11 @@ abbrev pub value_of : {T : Type 0} → List (Named T) → List ℕ → Option T
 value_of [] name = None
 value_of (item ∷ items) name = if bytes_eq item.name name then Some item.value else value_of items name
 
+-- all values of the name, in order
+abbrev pub values_of : {T : Type 0} → List (Named T) → List ℕ → List T
+values_of [] name = []
+values_of (item ∷ items) name = if bytes_eq item.name name then item.value ∷ values_of items name else values_of items name
+
 -- how many values stand before that of the name, all of them where it has none
 abbrev pub place_of : {T : Type 0} → List (Named T) → List ℕ → ℕ
 place_of [] name = 0

@@ -1,5 +1,5 @@
 ghost use Rattle.std.specs.Prelude.{◌≡◌, List, ℕ, None, false};
-ghost use Rattle.outside_io.specs.FilePlace.{file_open_faults, file_read_faults, file_write_faults};
+ghost use Rattle.outside_io.specs.FilePlace.{file_open_faults, file_read_faults, file_write_faults, file_state};
 ghost use Rattle.outside_io.specs.SayOut.{say_faults};
 
 use crate::named::NamedValues;
@@ -11,15 +11,14 @@ use std::io::{Read, Write};
 use std::rt::Files;
 
 /// A file that is read. It tells nothing.
+#[derive(Drop)]
 pub struct FileSource<F: Read + Drop> {
     file: F,
     faults: u64,
 }
 
 impl<F: Read + Drop> Source for FileSource<F> {
-    ghost left = { λ _. None };
-
-    ghost faults = { λ s. s.faults };
+    ghost state = { λ source. record { left = None; faults = source.faults } };
 
     fn read(&mut self, buf: &mut [u8]) -> Result<usize, IoFault> {
         match self.file.read(buf) {
@@ -48,9 +47,7 @@ impl<W: Write + Drop> SayOut<W> {
 }
 
 impl<W: Write + Drop> Sink for SayOut<W> {
-    ghost held = { λ _. None };
-
-    ghost faults = { say_faults };
+    ghost state = { λ out. record { held = None; faults = say_faults out } };
 
     fn write(&mut self, piece: &[u8]) -> Result<usize, IoFault> {
         match self.writer.write(piece) {
@@ -103,15 +100,7 @@ where
 
     ghost tells = { false };
 
-    ghost names = { λ _ _. None };
-
-    ghost taken = { λ _ _. None };
-
-    ghost open_faults = { file_open_faults };
-
-    ghost read_faults = { file_read_faults };
-
-    ghost write_faults = { file_write_faults };
+    ghost state = { file_state };
 
     fn open_in(&mut self, name: &Text) -> Result<FileSource<R::File>, IoFault> {
         let mut how = OpenOptions::new();

@@ -56,11 +56,9 @@ impl MemorySource {
 }
 
 impl Source for MemorySource {
-    ghost use Rattle.outside_io.specs.Memory.{source_left, source_most, source_plan, source_faults};
+    ghost use Rattle.outside_io.specs.Memory.{source_left, source_most, source_plan, source_faults, source_state};
 
-    ghost left = { λ source. Some (source_left source) };
-
-    ghost faults = { source_faults };
+    ghost state = { source_state };
 
     /// Gives as many octets as `buf`, the source and `most` allow, or fails where its plan says so.
     fn read(&mut self, buf: &mut [u8]) -> Result<usize, IoFault>
@@ -133,11 +131,9 @@ impl MemorySink {
 }
 
 impl Sink for MemorySink {
-    ghost use Rattle.outside_io.specs.Memory.{sink_held, sink_most, sink_plan, sink_faults};
+    ghost use Rattle.outside_io.specs.Memory.{sink_held, sink_most, sink_plan, sink_faults, sink_state};
 
-    ghost held = { λ sink. Some (sink_held sink) };
-
-    ghost faults = { sink_faults };
+    ghost state = { sink_state };
 
     /// Takes as many octets as `most` allows, or fails where its plan says so. After an error it holds what it held.
     fn write(&mut self, piece: &[u8]) -> Result<usize, IoFault>

@@ -1,8 +1,8 @@
-ghost use Rattle.std.specs.Prelude.{◌≡◌, ◌≤◌, ◌∷◌, [], length, true, false, Some, None, IsTrue, IfOk, IfErr, MatchResult};
+ghost use Rattle.std.specs.Prelude.{◌≡◌, ◌≤◌, ◌∷◌, [], length, true, false, Some, None, IfOk, MatchResult};
 ghost use Rattle.outside_io.specs.CanCome.{flows_can_come, route_events_can_come};
 ghost use Rattle.outside_io.specs.Causes.{HasCause};
 ghost use Rattle.outside_io.specs.EventQueue.{queue_left, queue_moment, queue_plan, queue_faults};
-ghost use Rattle.outside_io.specs.Inputs.{prepend_told, append_told, given, MatchGiven, IfGiven, EndsAs, HasInputCause, is_of_capture};
+ghost use Rattle.outside_io.specs.Inputs.{prepend_told, append_told, given, MovesOn, IfGiven, EndsAs, EndsHere, HasInputCause, OnlyOfCapture};
 ghost use Rattle.outside_io.specs.Plan.{plan_of, after_call, FailsNext, FailsWhere, ReadFailsWhere};
 ghost use Rattle.acct_types.specs.RouteEvents.{act_octets};
 
@@ -19,13 +19,14 @@ pub struct MemoryFlows {
 }
 
 impl MemoryFlows {
-    ghost use Rattle.outside_io.specs.MemoryInputs.{flows_left, flows_moment, flows_plan, flows_faults};
+    ghost use Rattle.outside_io.specs.MemoryInputs.{flows_left, flows_moment, flows_ended, flows_plan, flows_faults};
 
     /// Hands out the datagrams in order. The calls of `next` that `failing` numbers, from 1, fail. Takes no memory.
     pub fn new(datagrams: List<Datagram>, failing: List<u64>) -> MemoryFlows
         requires { flows_can_come 0 datagrams ≡ true }
         ensures left { flows_left result ≡ datagrams }
         ensures moment { flows_moment result ≡ 0 }
+        ensures goes_on { flows_ended result ≡ false }
         ensures plan { flows_plan result ≡ plan_of failing }
         ensures fresh { flows_faults result ≡ 0 }
     {
@@ -36,30 +37,20 @@ impl MemoryFlows {
 }
 
 impl Datagrams for MemoryFlows {
-    ghost use Rattle.outside_io.specs.MemoryInputs.{flows_left, flows_moment, flows_plan, flows_faults};
+    ghost use Rattle.outside_io.specs.MemoryInputs.{flows_left, flows_moment, flows_ended, flows_plan, flows_faults, flows_state};
 
-    ghost left = { λ flows. Some (flows_left flows) };
-
-    ghost ending = { λ _. None };
-
-    ghost handed = { λ _. None };
-
-    ghost moment = { flows_moment };
-
-    ghost faults = { flows_faults };
-
-    ghost captured = { λ _. false };
+    ghost state = { flows_state };
 
     /// Fails where its plan says so, and nowhere else.
     fn next(&mut self) -> Result<Option<Datagram>, InputFault>
         ensures left { prepend_told (given result) (Some (flows_left self.new)) ≡ Some (flows_left self.old) }
         ensures handed { None ≡ append_told None (given result) }
         ensures ends { EndsAs (Some (flows_left self.old)) None result }
-        ensures moment { MatchGiven result (λ d. (flows_moment self.old ≤ d.moment) × (flows_moment self.new ≡ d.moment))
-            (flows_moment self.new ≡ flows_moment self.old) }
+        ensures ended { EndsHere (flows_ended self.old) (flows_ended self.new) result }
+        ensures moment { MovesOn (λ d. d.moment) (flows_moment self.old) (flows_moment self.new) result }
         ensures fits { IfGiven result (λ d. length d.octets ≤ 65535) }
         ensures cause { HasInputCause (flows_faults self.old) (flows_faults self.new) result }
-        ensures of_capture { IfErr result (λ fault. IsTrue (is_of_capture fault) → IsTrue false) }
+        ensures of_capture { OnlyOfCapture false result }
         ensures kept { IfOk result (λ _. flows_faults self.new ≡ flows_faults self.old) }
         ensures fails { ReadFailsWhere (FailsNext (flows_plan self.old)) result }
         ensures plan { flows_plan self.new ≡ after_call (flows_plan self.old) }
@@ -80,7 +71,7 @@ pub struct MemorySessions {
 }
 
 impl MemorySessions {
-    ghost use Rattle.outside_io.specs.MemoryInputs.{sessions_left, sessions_moment, sessions_plan, sessions_faults};
+    ghost use Rattle.outside_io.specs.MemoryInputs.{sessions_left, sessions_moment, sessions_ended, sessions_plan, sessions_faults};
     ghost use Rattle.outside_io.specs.MemoryInputs.{sessions_sent, sessions_reply_plan, sessions_reply_faults};
 
     /// Hands out the events in order. The calls of `next` that `failing_next` numbers, from 1, fail, and those of
@@ -94,6 +85,7 @@ impl MemorySessions {
         requires { route_events_can_come 0 events ≡ true }
         ensures left { sessions_left result ≡ events }
         ensures moment { sessions_moment result ≡ 0 }
+        ensures goes_on { sessions_ended result ≡ false }
         ensures plan { sessions_plan result ≡ plan_of failing_next }
         ensures fresh { sessions_faults result ≡ 0 }
         ensures sent { sessions_sent result ≡ [] }
@@ -118,37 +110,24 @@ impl MemorySessions {
 }
 
 impl Sessions for MemorySessions {
-    ghost use Rattle.outside_io.specs.MemoryInputs.{sessions_left, sessions_moment, sessions_plan, sessions_faults};
-    ghost use Rattle.outside_io.specs.MemoryInputs.{sessions_sent, sessions_reply_plan, sessions_reply_faults};
+    ghost use Rattle.outside_io.specs.MemoryInputs.{sessions_left, sessions_moment, sessions_ended, sessions_plan, sessions_faults};
+    ghost use Rattle.outside_io.specs.MemoryInputs.{sessions_sent, sessions_reply_plan, sessions_reply_faults, sessions_state, sessions_replies};
 
-    ghost left = { λ sessions. Some (sessions_left sessions) };
+    ghost state = { sessions_state };
 
-    ghost ending = { λ _. None };
-
-    ghost handed = { λ _. None };
-
-    ghost moment = { sessions_moment };
-
-    ghost faults = { sessions_faults };
-
-    ghost captured = { λ _. false };
-
-    ghost sent = { λ sessions. Some (sessions_sent sessions) };
-
-    ghost reply_faults = { sessions_reply_faults };
+    ghost replies = { sessions_replies };
 
     /// Fails where its plan says so, and nowhere else.
     fn next(&mut self) -> Result<Option<RouteEvent>, InputFault>
         ensures left { prepend_told (given result) (Some (sessions_left self.new)) ≡ Some (sessions_left self.old) }
         ensures handed { None ≡ append_told None (given result) }
         ensures ends { EndsAs (Some (sessions_left self.old)) None result }
-        ensures moment { MatchGiven result (λ e. (sessions_moment self.old ≤ e.moment) × (sessions_moment self.new ≡ e.moment))
-            (sessions_moment self.new ≡ sessions_moment self.old) }
+        ensures ended { EndsHere (sessions_ended self.old) (sessions_ended self.new) result }
+        ensures moment { MovesOn (λ e. e.moment) (sessions_moment self.old) (sessions_moment self.new) result }
         ensures fits { IfGiven result (λ e. length (act_octets e.act) ≤ 65535) }
         ensures cause { HasInputCause (sessions_faults self.old) (sessions_faults self.new) result }
-        ensures of_capture { IfErr result (λ fault. IsTrue (is_of_capture fault) → IsTrue false) }
-        ensures sent { sessions_sent self.new ≡ sessions_sent self.old }
-        ensures reply_faults { sessions_reply_faults self.new ≡ sessions_reply_faults self.old }
+        ensures of_capture { OnlyOfCapture false result }
+        ensures replies { sessions_replies self.new ≡ sessions_replies self.old }
         ensures kept { IfOk result (λ _. sessions_faults self.new ≡ sessions_faults self.old) }
         ensures fails { ReadFailsWhere (FailsNext (sessions_plan self.old)) result }
         ensures plan { sessions_plan self.new ≡ after_call (sessions_plan self.old) }
@@ -164,9 +143,7 @@ impl Sessions for MemorySessions {
             append_told (Some (sessions_sent self.old)) (record { side = side; to = to.now; octets = octets.now } ∷ []))
             (λ _. Some (sessions_sent self.new) ≡ Some (sessions_sent self.old)) }
         ensures cause { HasCause (sessions_reply_faults self.old) (sessions_reply_faults self.new) result }
-        ensures left { sessions_left self.new ≡ sessions_left self.old }
-        ensures moment { sessions_moment self.new ≡ sessions_moment self.old }
-        ensures faults { sessions_faults self.new ≡ sessions_faults self.old }
+        ensures input { sessions_state self.new ≡ sessions_state self.old }
         ensures kept { IfOk result (λ _. sessions_reply_faults self.new ≡ sessions_reply_faults self.old) }
         ensures fails { FailsWhere (FailsNext (sessions_reply_plan self.old)) result }
         ensures plan { sessions_plan self.new ≡ sessions_plan self.old }

@@ -1,4 +1,4 @@
-ghost use Rattle.std.specs.Prelude.{◌≡◌, ◌≢◌, ◌≤◌, ◌<◌, ◌+◌, ◌-◌, ◌^◌, ◌⊎◌, List, ℕ, [], length, drop, Some, None, IsSome, IsErrOf, IfOk, OnOk, OnErr, MatchResult};
+ghost use Rattle.std.specs.Prelude.{◌≡◌, ◌≢◌, ◌≤◌, ◌<◌, ◌+◌, ◌-◌, ◌^◌, ◌⊎◌, ◌∷◌, ◌++◌, List, ℕ, [], length, drop, Some, None, IsSome, IsErrOf, IfOk, OnOk, OnErr, MatchResult};
 ghost use Rattle.std.specs.Io.KnownBytes.{prepend_known};
 ghost use Rattle.outside_io.specs.Causes.{HasCauseAt, RisesWhere, RisesAt};
 ghost use Rattle.outside_io.specs.Octets.{Takes};
@@ -8,7 +8,7 @@ ghost use Rattle.outside_io.specs.Names.{begun, Puts, PutsFront};
 ghost use Rattle.outside_io.specs.Memory.{source_left, source_most, source_plan, source_faults, sink_held, sink_most, sink_plan, sink_faults};
 ghost use Rattle.outside_io.specs.MemoryPlace.{most_of, failing_of};
 
-use crate::named::NamedValues;
+use crate::named::{Named, NamedValues};
 use crate::shape::Shape;
 use crate::{Begin, CallPlan, IoFault, MemorySink, MemorySource, Place};
 use acct_types::{List, NoMemory, Octets, Text};
@@ -19,7 +19,7 @@ use std::alloc::Global;
 pub struct MemoryPlace {
     alloc: Global,
     files: NamedValues<Octets>,
-    taken: NamedValues<Octets>,
+    taken: List<Named<Octets>>,
     open_faults: NamedValues<u64>,
     read_faults: NamedValues<u64>,
     write_faults: NamedValues<u64>,
@@ -35,7 +35,7 @@ impl MemoryPlace {
     /// A place without a name. The openings and the closings of outputs that these lists number, from 1, fail.
     pub fn new(alloc: Global, failing_opens: List<u64>, failing_closes: List<u64>) -> MemoryPlace
         ensures names { (name : List ℕ) → place_names result name ≡ None }
-        ensures taken { (name : List ℕ) → place_taken result name ≡ None }
+        ensures taken { (name : List ℕ) → place_taken result name ≡ [] }
         ensures most { (name : List ℕ) → place_most result name ≡ 2 ^ 64 - 1 }
         ensures failing { (name : List ℕ) → place_failing result name ≡ [] }
         ensures opens { place_opens result ≡ plan_of failing_opens }
@@ -47,7 +47,7 @@ impl MemoryPlace {
         MemoryPlace {
             alloc,
             files: NamedValues::new(alloc),
-            taken: NamedValues::new(alloc),
+            taken: List::new(alloc),
             open_faults: NamedValues::new(alloc),
             read_faults: NamedValues::new(alloc),
             write_faults: NamedValues::new(alloc),
@@ -126,7 +126,7 @@ fn shape_of(alloc: Global, shapes: &NamedValues<Shape>, name: &Text) -> Result<S
 
 impl Place for MemoryPlace {
     ghost use Rattle.std.specs.Prelude.{true};
-    ghost use Rattle.outside_io.specs.MemoryPlace.{place_names, place_taken, place_open_faults, place_read_faults, place_write_faults, place_opens, place_closes, place_most, place_failing, SameShapes, SamePlans};
+    ghost use Rattle.outside_io.specs.MemoryPlace.{place_names, place_taken, place_open_faults, place_read_faults, place_write_faults, place_opens, place_closes, place_most, place_failing, place_state, SameShapes, SamePlans};
 
     type In = MemorySource;
 
@@ -134,15 +134,7 @@ impl Place for MemoryPlace {
 
     ghost tells = { true };
 
-    ghost names = { place_names };
-
-    ghost taken = { place_taken };
-
-    ghost open_faults = { place_open_faults };
-
-    ghost read_faults = { place_read_faults };
-
-    ghost write_faults = { place_write_faults };
+    ghost state = { place_state };
 
     /// Fails where the name is missing or the plan of openings says so.
     fn open_in(&mut self, name: &Text) -> Result<MemorySource, IoFault>
@@ -178,7 +170,7 @@ impl Place for MemoryPlace {
         requires { (before : List ℕ) × Takes (place_names self.old name.now) before (Some (source_left input)) }
         ensures names { place_names self.new ≡ place_names self.old }
         ensures taken { OnOk result ((before : List ℕ) → Takes (place_names self.old name.now) before (Some (source_left input))
-            → Puts (place_taken self.old) (place_taken self.new) name.now (Some before)) }
+            → Puts (place_taken self.old) (place_taken self.new) name.now (place_taken self.old name.now ++ before ∷ [])) }
         ensures others { (other : List ℕ) → other ≢ name.now → place_taken self.new other ≡ place_taken self.old other }
         ensures opens { place_open_faults self.new ≡ place_open_faults self.old }
         ensures cause { OnOk result (RisesWhere (source_faults input) (place_read_faults self.old) (place_read_faults self.new) name.now) }
@@ -193,7 +185,9 @@ impl Place for MemoryPlace {
         };
         let count = octets.len() - input.left_len();
         let taken = Octets::from_slice(self.alloc, &octets.as_slice()[..count])?;
-        self.taken.put(name, taken)
+        let name = name.copy()?;
+        self.taken.push(Named { name, value: taken })?;
+        Ok(())
     }
 
     /// Fails where the plan of openings says so.

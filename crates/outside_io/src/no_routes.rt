@@ -1,4 +1,5 @@
-ghost use Rattle.std.specs.Prelude.{◌≡◌, [], None, Some, Ok, false, IsOk};
+ghost use Rattle.std.specs.Prelude.{◌≡◌, None, Ok, true, false, IsOk};
+ghost use Rattle.outside_io.specs.NoRoutes.{no_routes_ended, no_routes_state, no_replies};
 
 use crate::{Flag, InputFault, IoFault, Sessions};
 use acct_types::{Addr, NoMemory, Octets, RouteEvent, Side};
@@ -8,40 +9,37 @@ use std::alloc::Global;
 #[derive(Debug, Drop)]
 pub struct NoRoutes {
     alloc: Global,
+    ended: bool,
 }
 
 impl NoRoutes {
     /// Takes no memory.
-    pub fn new(alloc: Global) -> NoRoutes {
-        NoRoutes { alloc }
+    pub fn new(alloc: Global) -> NoRoutes
+        ensures { no_routes_ended result ≡ false }
+    {
+        NoRoutes {
+            alloc,
+            ended: false,
+        }
     }
 }
 
 impl Sessions for NoRoutes {
-    ghost left = { λ _. Some [] };
+    ghost state = { no_routes_state };
 
-    ghost ending = { λ _. None };
-
-    ghost handed = { λ _. Some [] };
-
-    ghost moment = { λ _. 0 };
-
-    ghost faults = { λ _. 0 };
-
-    ghost captured = { λ _. false };
-
-    ghost sent = { λ _. None };
-
-    ghost reply_faults = { λ _. 0 };
+    ghost replies = { no_replies };
 
     fn next(&mut self) -> Result<Option<RouteEvent>, InputFault>
-        ensures { result ≡ Ok None }
+        ensures none { result ≡ Ok None }
+        ensures ended { no_routes_ended self.new ≡ true }
     {
+        self.ended = true;
         Ok(None)
     }
 
     fn reply(&mut self, _: Side, _: &Addr, _: &Octets) -> Result<(), IoFault>
-        ensures { IsOk result }
+        ensures ok { IsOk result }
+        ensures kept { self.new ≡ self.old }
     {
         Ok(())
     }

@@ -1,4 +1,4 @@
-ghost use Rattle.std.specs.Prelude.{◌≡◌, ◌≢◌, ◌≤◌, ◌<◌, ◌⊎◌, ◌++◌, List, ℕ, [], length, false, Some, IsTrue, IfOk, OnOk, OnErr, IsErrOf};
+ghost use Rattle.std.specs.Prelude.{◌≡◌, ◌≢◌, ◌≤◌, ◌<◌, ◌⊎◌, ◌++◌, ◌∷◌, List, ℕ, [], length, false, Some, IsTrue, IfOk, OnOk, OnErr, IsErrOf};
 ghost use Rattle.std.specs.Io.KnownBytes.{append_known, IsAtEnd};
 ghost use Rattle.outside_io.specs.Causes.{HasCause, Rose, RisesAt};
 ghost use Rattle.outside_io.specs.Octets.{Takes, WritesFront};
@@ -24,12 +24,12 @@ pub fn read_all<S: Source>(
     source: &mut S,
     most: usize,
 ) -> Result<ReadOctets, NoMemory>
-    ensures taken { IfOk result (λ read. Takes (S.left source.old) read.octets (S.left source.new)) }
-    ensures err { OnErr result ((octets : List ℕ) × Takes (S.left source.old) octets (S.left source.new)) }
-    ensures whole { IfOk result (λ read. read.failed ≡ false → length read.octets < most → IsAtEnd (S.left source.new)) }
+    ensures taken { IfOk result (λ read. Takes (S.state source.old).left read.octets (S.state source.new).left) }
+    ensures err { OnErr result ((octets : List ℕ) × Takes (S.state source.old).left octets (S.state source.new).left) }
+    ensures whole { IfOk result (λ read. read.failed ≡ false → length read.octets < most → IsAtEnd (S.state source.new).left) }
     ensures bound { IfOk result (λ read. length read.octets ≤ most) }
-    ensures failed { IfOk result (λ read. IsTrue read.failed → Rose (S.faults source.old) (S.faults source.new)) }
-    ensures later { S.faults source.old ≤ S.faults source.new }
+    ensures failed { IfOk result (λ read. IsTrue read.failed → Rose (S.state source.old).faults (S.state source.new).faults) }
+    ensures later { (S.state source.old).faults ≤ (S.state source.new).faults }
 {
     let mut octets = Octets::new(alloc);
     let mut buf = [0u8; PIECE];
@@ -59,9 +59,9 @@ pub fn read_all<S: Source>(
 
 /// Writes all of the octets. After an error a front of them was written.
 pub fn write_all<K: Sink>(sink: &mut K, octets: &[u8]) -> Result<(), IoFault>
-    ensures ok { OnOk result (K.held sink.new ≡ append_known (K.held sink.old) octets.now) }
-    ensures err { OnErr result (WritesFront (K.held sink.old) (K.held sink.new) octets.now) }
-    ensures cause { HasCause (K.faults sink.old) (K.faults sink.new) result }
+    ensures ok { OnOk result ((K.state sink.new).held ≡ append_known (K.state sink.old).held octets.now) }
+    ensures err { OnErr result (WritesFront (K.state sink.old).held (K.state sink.new).held octets.now) }
+    ensures cause { HasCause (K.state sink.old).faults (K.state sink.new).faults result }
 {
     let mut rest = octets;
     while !rest.is_empty() {
@@ -79,17 +79,17 @@ pub fn read_name<P: Place>(
     name: &Text,
     most: usize,
 ) -> Result<Octets, IoFault>
-    ensures whole { IsTrue P.tells → IfOk result (λ octets. length octets < most → P.names place.old name.now ≡ Some octets) }
-    ensures front { IsTrue P.tells → IfOk result (λ octets. (rest : List ℕ) × (P.names place.old name.now ≡ Some (octets ++ rest))) }
+    ensures whole { IsTrue P.tells → IfOk result (λ octets. length octets < most → (P.state place.old).names name.now ≡ Some octets) }
+    ensures front { IsTrue P.tells → IfOk result (λ octets. (rest : List ℕ) × ((P.state place.old).names name.now ≡ Some (octets ++ rest))) }
     ensures bound { IfOk result (λ octets. length octets ≤ most) }
-    ensures names { IsTrue P.tells → P.names place.new ≡ P.names place.old }
-    ensures taken { IsTrue P.tells → IfOk result (λ octets. P.taken place.new name.now ≡ Some octets) }
-    ensures others { IsTrue P.tells → (other : List ℕ) → other ≢ name.now → P.taken place.new other ≡ P.taken place.old other }
-    ensures cause { IsErrOf result IoFault.Failed → Rose (P.open_faults place.old name.now) (P.open_faults place.new name.now)
-        ⊎ Rose (P.read_faults place.old name.now) (P.read_faults place.new name.now) }
-    ensures opens { RisesAt (P.open_faults place.old) (P.open_faults place.new) name.now }
-    ensures reads { RisesAt (P.read_faults place.old) (P.read_faults place.new) name.now }
-    ensures writes { P.write_faults place.new ≡ P.write_faults place.old }
+    ensures names { IsTrue P.tells → (P.state place.new).names ≡ (P.state place.old).names }
+    ensures taken { IsTrue P.tells → IfOk result (λ octets. (P.state place.new).taken name.now ≡ (P.state place.old).taken name.now ++ octets ∷ []) }
+    ensures others { IsTrue P.tells → (other : List ℕ) → other ≢ name.now → (P.state place.new).taken other ≡ (P.state place.old).taken other }
+    ensures cause { IsErrOf result IoFault.Failed → Rose ((P.state place.old).opens name.now) ((P.state place.new).opens name.now)
+        ⊎ Rose ((P.state place.old).reads name.now) ((P.state place.new).reads name.now) }
+    ensures opens { RisesAt (P.state place.old).opens (P.state place.new).opens name.now }
+    ensures reads { RisesAt (P.state place.old).reads (P.state place.new).reads name.now }
+    ensures writes { (P.state place.new).writes ≡ (P.state place.old).writes }
 {
     let mut input = place.open_in(name)?;
     let read = read_all(alloc, &mut input, most);

@@ -4,8 +4,8 @@ use Rattle.outside_io.proofs.whole.write_all.Given as goal
 
 abbrev pub invariant-loop-rest : goal.invariant-loop-rest
 invariant-loop-rest g l = record {
-  written : IsWritten (g.K.Sink.held l.fn.sink) (g.K.Sink.held l.sink) l.octets l.rest;
-  later : g.K.Sink.faults l.fn.sink ≤ g.K.Sink.faults l.sink;
+  written : IsWritten (g.K.Sink.state l.fn.sink).held (g.K.Sink.state l.sink).held l.octets l.rest;
+  later : (g.K.Sink.state l.fn.sink).faults ≤ (g.K.Sink.state l.sink).faults;
 }
 
 abbrev pub decreases-loop-rest : goal.decreases-loop-rest
