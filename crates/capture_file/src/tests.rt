@@ -1,7 +1,10 @@
 ghost use Rattle.std.specs.Prelude.{◌≤◌, length, IfOk};
 ghost use Rattle.acct_types.specs.RouteEvents.{act_octets};
 
-use crate::{CaptureEnd, CaptureFlows, CaptureReader, CaptureRoutes, FlowCapture, Step, split_flows, write_flow, write_magic, write_route};
+use crate::{
+    CaptureEnd, CaptureFlows, CaptureReader, CaptureRoutes, FlowCapture, Step, split_flows,
+    write_flow, write_magic, write_route,
+};
 use acct_types::{Act, Addr, Datagram, List, NoMemory, Octets, RouteEvent, Side};
 use outside_io::{Datagrams, InputFault, MemorySource, Sessions, Source};
 use std::alloc::Global;
