@@ -1,3 +1,6 @@
+ghost use Rattle.std.specs.Prelude.{◌≡◌, true};
+ghost use Rattle.acct_types.specs.RouteEvents.{has_its_side};
+
 use crate::{Addr, Octets};
 
 /// What a router speaks on a session: BGP (RFC 4271), or BMP (RFC 7854).
@@ -16,7 +19,7 @@ pub enum Act {
     Tick,
 }
 
-/// What happened to the session with a router, at a moment in milliseconds.
+/// What happened to the session with a router, at a moment in milliseconds. A tick is of both sides, and has the side Bgp.
 #[derive(Debug, Drop)]
 pub struct RouteEvent {
     pub moment: u64,
@@ -24,6 +27,7 @@ pub struct RouteEvent {
     pub address: Addr,
     pub port: u16,
     pub act: Act,
+    pub ghost of_its_side: { has_its_side side act ≡ true },
 }
 
 /// Octets for a router, on its session.

@@ -1,5 +1,7 @@
 -- What an event's spelling is read as.
 use Rattle.std.proofs.Common.{◌≡◌, ◌≤◌, ◌<◌, ℕ, zero, suc, ◌+◌, ◌*◌, ◌^◌, ◌∙◌, Bool, true, false, List, [], ◌∷◌, ◌++◌, length, take, drop, Ok, refl, sym, ap, subst, length-append, arith}
+use mathlib.Core.HLevel.{is_prop→PathP}
+use Rattle.std.proofs.Math.Bool.{Bool-set}
 use Rattle.std.specs.Prelude.{max, nat_lt, flat_map, All, ◌==◌}
 use Rattle.std.proofs.lemmas.Bool.{le-ltb, ne_eqb}
 use Rattle.std.proofs.Math.Seq.{take-append_seam, drop-append_seam}
@@ -14,12 +16,12 @@ use Rattle.acct_types.specs.declared.route_event.Side.TheVariants.{Bgp, Bmp}
 use Rattle.acct_types.specs.declared.route_event.Act.{Act}
 use Rattle.acct_types.specs.declared.route_event.Act.TheVariants.{Up, Bytes, Down, Tick}
 use Rattle.acct_types.specs.declared.route_event.RouteEvent.{RouteEvent}
-use Rattle.acct_types.specs.RouteEvents.{act_octets}
+use Rattle.acct_types.specs.RouteEvents.{act_octets, has_its_side}
 use Rattle.capture_file.specs.declared.flows.CaptureEnd.TheVariants.{Ended}
-use Rattle.capture_file.specs.Event.{judged, is_kind, kind_of, low_half, header_width, event_width, length_of, most_octets, stamp_of, address_of, port_of, datagram_at, route_event_at, side_of, act_of, event_spelling, spelling_of, route_spelling_of, low_half_spelling, high_half_spelling, LONGEST}
+use Rattle.capture_file.specs.Event.{judged, is_kind, kind_of, low_half, header_width, event_width, length_of, most_octets, stamp_of, address_of, port_of, datagram_at, reads_its_side, route_event_at, side_of, act_of, event_spelling, spelling_of, route_spelling_of, low_half_spelling, high_half_spelling, LONGEST}
 use Rattle.capture_file.specs.Capture.{magic, events_from, end_from, read_behind}
 use Rattle.capture_file.proofs.Events.{events_whole, end_whole, events_none, end_none, none_left}
-use Rattle.capture_file.specs.Laws.{NeverFall, ReadsBack, ReadsRoutesBack, FitsAddress, FitsEvent, FitsRouteEvent, HasItsSide, IsReadAgain, spellings_of, route_spellings_of}
+use Rattle.capture_file.specs.Laws.{NeverFall, ReadsBack, ReadsRoutesBack, FitsAddress, FitsEvent, FitsRouteEvent, IsReadAgain, spellings_of, route_spellings_of}
 
 pub datagrams_rise : (moment : ℕ) (events : List (List ℕ)) → NeverFall (λ (d : Datagram). d.moment) moment (read_behind datagram_at moment events)
 datagrams_rise moment [] = tt
@@ -160,8 +162,11 @@ route_octets side Up address short = omega arith
 route_octets side Down address short = omega arith
 route_octets side Tick address short = omega arith
 
+no_side : false ≡ true → ⊥
+no_side e = cc
+
 -- a route event's own octets and its side are those of its spelling
-route_act : (side : Side) (act : Act) (stamp : ℕ) (address : Addr) (port : ℕ) → HasItsSide act side
+route_act : (side : Side) (act : Act) (stamp : ℕ) (address : Addr) (port : ℕ) → has_its_side side act ≡ true
     → (side_of (event_spelling (high_half_spelling side act) stamp address port (act_octets act)) ≡ side) × (act_of (event_spelling (high_half_spelling side act) stamp address port (act_octets act)) ≡ act)
 route_act Bgp Up stamp (V4 number) port ok = (refl, refl)
 route_act Bgp Up stamp (V6 number) port ok = (refl, refl)
@@ -177,26 +182,26 @@ route_act Bmp Down stamp (V4 number) port ok = (refl, refl)
 route_act Bmp Down stamp (V6 number) port ok = (refl, refl)
 route_act Bgp Tick stamp (V4 number) port ok = (refl, refl)
 route_act Bgp Tick stamp (V6 number) port ok = (refl, refl)
-route_act Bmp Tick stamp (V4 number) port ok = (sym ok, refl)
-route_act Bmp Tick stamp (V6 number) port ok = (sym ok, refl)
+route_act Bmp Tick stamp (V4 number) port ok = absurd (no_side ok)
+route_act Bmp Tick stamp (V6 number) port ok = absurd (no_side ok)
 
-route_is_read : (moment stamp : ℕ) (side : Side) (address : Addr) (port : ℕ) (act : Act) → let e : RouteEvent = record { moment = stamp; side = side; address = address; port = port; act = act } in
-    moment ≤ stamp → FitsRouteEvent e → route_event_at moment (route_spelling_of e) ≡ e
-route_is_read moment stamp side address port act later fits =
-    let high = high_half_spelling side act in
-    let octets = event_spelling high stamp address port (act_octets act) in
-    let spelled : IsSpelled octets high stamp address port (act_octets act) =
-    subst (λ (xs : List ℕ). IsSpelled xs high stamp address port (act_octets act)) (append-nil octets) (is_spelled high stamp address port (act_octets act) [] fits.moment fits.address fits.port fits.octets) in
-    let rises : max moment (stamp_of octets) ≡ stamp = ap (max moment) spelled.has_stamp ∙ omega arith in
-    let own = route_act side act stamp address port fits.side in
-    λ i. record { moment = rises i; side = own.0 i; address = spelled.has_address i; port = spelled.has_port i; act = own.1 i }
+route_is_read : (moment : ℕ) (e : RouteEvent) → moment ≤ e.moment → FitsRouteEvent e → route_event_at moment (route_spelling_of e) ≡ e
+route_is_read moment e later fits =
+    let high = high_half_spelling e.side e.act in
+    let octets = event_spelling high e.moment e.address e.port (act_octets e.act) in
+    let spelled : IsSpelled octets high e.moment e.address e.port (act_octets e.act) =
+    subst (λ (xs : List ℕ). IsSpelled xs high e.moment e.address e.port (act_octets e.act)) (append-nil octets) (is_spelled high e.moment e.address e.port (act_octets e.act) [] fits.moment fits.address fits.port fits.octets) in
+    let rises : max moment (stamp_of octets) ≡ e.moment = ap (max moment) spelled.has_stamp ∙ omega arith in
+    let own = route_act e.side e.act e.moment e.address e.port e.of_its_side in
+    let of_its_side = is_prop→PathP (λ j. has_its_side (own.0 j) (own.1 j) ≡ true) (λ j. Bool-set _ _) (reads_its_side octets) e.of_its_side in
+    λ i. record { moment = rises i; side = own.0 i; address = spelled.has_address i; port = spelled.has_port i; act = own.1 i; of_its_side = of_its_side i }
 
 pub route_again : (moment most used : ℕ) (e : RouteEvent) (later : List ℕ) → moment ≤ e.moment → FitsRouteEvent e → used + length (route_spelling_of e) ≤ most
     → IsReadAgain false route_event_at (route_spelling_of e) e moment most used later
 route_again moment most used e later rises fits allowed =
     again false route_event_at (route_spelling_of e) e moment most used later
     (spelling_is_judged false most used (high_half_spelling e.side e.act) e.moment e.address e.port (act_octets e.act) later (route_kind e.side e.act e.address) (route_octets e.side e.act e.address fits.octets) fits.moment fits.address fits.port fits.octets allowed)
-    (route_is_read moment e.moment e.side e.address e.port e.act rises fits)
+    (route_is_read moment e rises fits)
 
 -- what is written of a list of events is read as this list, to its end
 module _ {E : Type 0} (flows : Bool) (read : ℕ → List ℕ → E) (spell : E → List ℕ) (moment_of : E → ℕ) (Fits : E → Type 0)

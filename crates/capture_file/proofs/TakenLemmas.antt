@@ -5,6 +5,7 @@ use Rattle.std.specs.Io.KnownBytes.{IsAtEnd}
 use Rattle.std.proofs.lemmas.Grind.{flat_map-append}
 use Rattle.outside_io.specs.Calls.{Calls, EndWith, handed_out}
 use Rattle.outside_io.specs.Inputs.{given, is_of_capture}
+use Rattle.outside_io.specs.States.{SourceState}
 use Rattle.outside_io.specs.Octets.{Takes}
 use Rattle.outside_io.specs.declared.input_fault.InputFault.{InputFault}
 use Rattle.outside_io.specs.declared.input_fault.InputFault.TheVariants as fault
@@ -45,12 +46,12 @@ Leaves read now progress (Err fault.NoMemory) = Unit {0}
 Leaves read now progress (Err error) = (end : CaptureEnd) × (fault_of end ≡ Some error) × (progress ≡ Over end)
 
 -- what is known behind some calls
-record SoFar {E S : Type 0} (read : ℕ → List ℕ → E) (left : S → Option (List ℕ)) (start reader : CaptureReader S) (answers : List (Result (Option E) InputFault)) : Type 0 where
+record SoFar {E S : Type 0} (read : ℕ → List ℕ → E) (state : S → SourceState) (start reader : CaptureReader S) (answers : List (Result (Option E) InputFault)) : Type 0 where
   octets : List ℕ
-  taken : Takes (left (source_of start)) octets (left (source_of reader))
+  taken : Takes (state (source_of start)).left octets (state (source_of reader)).left
   reads : Reads (λ _. read) (standing_of reader) octets (handed_out answers)
   same : ((standing_of reader).flows ≡ (standing_of start).flows) × ((standing_of reader).most ≡ (standing_of start).most)
-  stands : StandsBy (standing_of reader) (left (source_of reader)) (progress_of reader)
+  stands : StandsBy (standing_of reader) (state (source_of reader)).left (progress_of reader)
   last : (answer : Result (Option E) InputFault) → EndWith answers answer → Leaves (λ _. read) (standing_of reader) (progress_of reader) answer
 
 -- one answer alone is the last
@@ -146,20 +147,20 @@ end_gives_none (capture.Torn place) = refl
 end_gives_none (capture.TooLong place) = refl
 end_gives_none capture.TooMany = refl
 
-fresh : {E S : Type 0} (read : ℕ → List ℕ → E) (left : S → Option (List ℕ)) (flows : Bool) (start : CaptureReader S) → IsFresh flows start → SoFar read left start start []
-fresh read left flows start is = record {
+fresh : {E S : Type 0} (read : ℕ → List ℕ → E) (state : S → SourceState) (flows : Bool) (start : CaptureReader S) → IsFresh flows start → SoFar read state start start []
+fresh read state flows start is = record {
   octets = [];
-  taken = takes_nothing (left (source_of start));
+  taken = takes_nothing (state (source_of start)).left;
   reads = subst (λ (there : Standing). Reads (λ _. read) there [] []) (sym is.start) (fresh_reads (λ _. read) flows (standing_of start).most);
   same = (refl, refl);
-  stands = subst (λ (p : Progress). StandsBy (standing_of start) (left (source_of start)) p) (sym is.live) tt;
+  stands = subst (λ (p : Progress). StandsBy (standing_of start) (state (source_of start)).left p) (sym is.live) tt;
   last = λ answer is_last. absurd (none_last answer is_last);
 }
 
 -- a call of a live reader
-live_more : {E S : Type 0} (read : ℕ → List ℕ → E) (left : S → Option (List ℕ)) (start before after : CaptureReader S) (answers : List (Result (Option E) InputFault)) (answer : Result (Option E) InputFault)
-    → SoFar read left start before answers → IsLiveCall read left before after answer → SoFar read left start after (answers ++ answer ∷ [])
-live_more {E = E} read left start before after answers answer so_far live =
+live_more : {E S : Type 0} (read : ℕ → List ℕ → E) (state : S → SourceState) (start before after : CaptureReader S) (answers : List (Result (Option E) InputFault)) (answer : Result (Option E) InputFault)
+    → SoFar read state start before answers → IsLiveCall read state before after answer → SoFar read state start after (answers ++ answer ∷ [])
+live_more {E = E} read state start before after answers answer so_far live =
     let call = live.call in
     let on = call_reads (λ _. read) (standing_of before) (standing_of after) _ _ answer so_far.octets (handed_out answers) call so_far.reads in
     let same = call_same read (standing_of before) (standing_of after) call.octets _ answer call.answer in
@@ -168,16 +169,16 @@ live_more {E = E} read left start before after answers answer so_far live =
       taken = takes_more _ _ _ so_far.octets on.more so_far.taken on.taken;
       reads = subst (λ (events : List E). Reads (λ _. read) (standing_of after) (so_far.octets ++ on.more) events) (handed_out_more answers answer) on.reads;
       same = (same.0 ∙ so_far.same.0, same.1 ∙ so_far.same.1);
-      stands = subst (λ (p : Progress). StandsBy (standing_of after) (left (source_of after)) p) (sym live.progress)
+      stands = subst (λ (p : Progress). StandsBy (standing_of after) (state (source_of after)).left p) (sym live.progress)
           (call_stands read (standing_of before) (standing_of after) call.octets _ answer call.answer);
       last = λ other is_last. subst (λ (last : Result (Option E) InputFault). Leaves (λ _. read) (standing_of after) (progress_of after) last) (same_last answers answer other is_last)
           (subst (λ (p : Progress). Leaves (λ _. read) (standing_of after) p answer) (sym live.progress) (call_leaves (λ _. read) (standing_of before) (standing_of after) _ _ answer call));
     }
 
 -- a call of one that isn't, whose answer hands out nothing
-idle_more : {E S : Type 0} (read : ℕ → List ℕ → E) (left : S → Option (List ℕ)) (start reader : CaptureReader S) (answers : List (Result (Option E) InputFault)) (answer : Result (Option E) InputFault)
-    → SoFar read left start reader answers → given answer ≡ [] → Leaves (λ _. read) (standing_of reader) (progress_of reader) answer → SoFar read left start reader (answers ++ answer ∷ [])
-idle_more {E = E} read left start reader answers answer so_far none leaves = record {
+idle_more : {E S : Type 0} (read : ℕ → List ℕ → E) (state : S → SourceState) (start reader : CaptureReader S) (answers : List (Result (Option E) InputFault)) (answer : Result (Option E) InputFault)
+    → SoFar read state start reader answers → given answer ≡ [] → Leaves (λ _. read) (standing_of reader) (progress_of reader) answer → SoFar read state start reader (answers ++ answer ∷ [])
+idle_more {E = E} read state start reader answers answer so_far none leaves = record {
   octets = so_far.octets;
   taken = so_far.taken;
   reads = subst (λ (events : List E). Reads (λ _. read) (standing_of reader) so_far.octets events) (sym (append-nil (handed_out answers)) ∙ ap (λ (xs : List E). handed_out answers ++ xs) (sym none) ∙ handed_out_more answers answer) so_far.reads;
@@ -187,30 +188,30 @@ idle_more {E = E} read left start reader answers answer so_far none leaves = rec
 }
 
 -- one call more
-one_more : {E S : Type 0} (read : ℕ → List ℕ → E) (left : S → Option (List ℕ)) (start before after : CaptureReader S) (answers : List (Result (Option E) InputFault)) (answer : Result (Option E) InputFault)
-    → SoFar read left start before answers → IsInputCall read left before after answer → SoFar read left start after (answers ++ answer ∷ [])
-one_more {E = E} {S = S} read left start before after answers answer so_far call = by (progress_of before) refl call
+one_more : {E S : Type 0} (read : ℕ → List ℕ → E) (state : S → SourceState) (start before after : CaptureReader S) (answers : List (Result (Option E) InputFault)) (answer : Result (Option E) InputFault)
+    → SoFar read state start before answers → IsInputCall read state before after answer → SoFar read state start after (answers ++ answer ∷ [])
+one_more {E = E} {S = S} read state start before after answers answer so_far call = by (progress_of before) refl call
   where
-    by : (p : Progress) → progress_of before ≡ p → IsCallAt p read left before after answer → SoFar read left start after (answers ++ answer ∷ [])
-    by Live at live = live_more read left start before after answers answer so_far live
+    by : (p : Progress) → progress_of before ≡ p → IsCallAt p read state before after answer → SoFar read state start after (answers ++ answer ∷ [])
+    by Live at live = live_more read state start before after answers answer so_far live
     by (Over end) at idle =
-        subst (λ (reader : CaptureReader S). SoFar read left start reader (answers ++ answer ∷ [])) (sym idle.unchanged)
-        (idle_more read left start before answers answer so_far (ap given idle.answer ∙ end_gives_none end)
+        subst (λ (reader : CaptureReader S). SoFar read state start reader (answers ++ answer ∷ [])) (sym idle.unchanged)
+        (idle_more read state start before answers answer so_far (ap given idle.answer ∙ end_gives_none end)
         (subst (λ (p : Progress). Leaves (λ _. read) (standing_of before) p answer) (sym at)
         (subst (λ (last : Result (Option E) InputFault). Leaves (λ _. read) (standing_of before) (Over end) last) (sym idle.answer) (again_leaves (λ _. read) (standing_of before) end))))
     by Failed at idle =
-        subst (λ (reader : CaptureReader S). SoFar read left start reader (answers ++ answer ∷ [])) (sym idle.unchanged)
-        (idle_more read left start before answers answer so_far (ap given idle.answer)
+        subst (λ (reader : CaptureReader S). SoFar read state start reader (answers ++ answer ∷ [])) (sym idle.unchanged)
+        (idle_more read state start before answers answer so_far (ap given idle.answer)
         (subst (λ (last : Result (Option E) InputFault). Leaves (λ _. read) (standing_of before) (progress_of before) last) (sym idle.answer) tt))
 
 -- any more calls
-more : {E S : Type 0} (read : ℕ → List ℕ → E) (left : S → Option (List ℕ)) (start before after : CaptureReader S) (answers next : List (Result (Option E) InputFault))
-    → SoFar read left start before answers → Calls (IsInputCall read left) before after next → SoFar read left start after (answers ++ next)
-more {E = E} {S = S} read left start before after answers [] so_far none =
-    subst (λ (all : List (Result (Option E) InputFault)). SoFar read left start after all) (sym (append-nil answers)) (subst (λ (reader : CaptureReader S). SoFar read left start reader answers) (sym none) so_far)
-more {E = E} read left start before after answers (answer ∷ next) so_far (between, call, calls) =
-    subst (λ (all : List (Result (Option E) InputFault)). SoFar read left start after all) (append_assoc answers (answer ∷ []) next)
-    (more read left start between after (answers ++ answer ∷ []) next (one_more read left start before between answers answer so_far call) calls)
+more : {E S : Type 0} (read : ℕ → List ℕ → E) (state : S → SourceState) (start before after : CaptureReader S) (answers next : List (Result (Option E) InputFault))
+    → SoFar read state start before answers → Calls (IsInputCall read state) before after next → SoFar read state start after (answers ++ next)
+more {E = E} {S = S} read state start before after answers [] so_far none =
+    subst (λ (all : List (Result (Option E) InputFault)). SoFar read state start after all) (sym (append-nil answers)) (subst (λ (reader : CaptureReader S). SoFar read state start reader answers) (sym none) so_far)
+more {E = E} read state start before after answers (answer ∷ next) so_far (between, call, calls) =
+    subst (λ (all : List (Result (Option E) InputFault)). SoFar read state start after all) (append_assoc answers (answer ∷ []) next)
+    (more read state start between after (answers ++ answer ∷ []) next (one_more read state start before between answers answer so_far call) calls)
 
 -- a reader whose capture is over has nothing ahead
 record IsDone {E : Type 0} (read : Bool → ℕ → List ℕ → E) (now : Standing) (end : CaptureEnd) (later : List ℕ) : Type 0 where
@@ -246,9 +247,9 @@ no_later None later is at = cc
 no_later (Some octets) later is at = let same : octets ≡ later = cc in sym same ∙ at
 
 -- what the calls so far say
-tells : {E S : Type 0} (read : ℕ → List ℕ → E) (left : S → Option (List ℕ)) (flows : Bool) (start reader : CaptureReader S) (answers : List (Result (Option E) InputFault)) → IsFresh flows start → SoFar read left start reader answers
-    → let most = (standing_of start).most in HandsOutTaken (events_read (λ _. read) flows most) (end_of_events flows most) (left (source_of start)) (left (source_of reader)) answers
-tells {E = E} read left flows start reader answers is so_far = record {
+tells : {E S : Type 0} (read : ℕ → List ℕ → E) (state : S → SourceState) (flows : Bool) (start reader : CaptureReader S) (answers : List (Result (Option E) InputFault)) → IsFresh flows start → SoFar read state start reader answers
+    → let most = (standing_of start).most in HandsOutTaken (events_read (λ _. read) flows most) (end_of_events flows most) (state (source_of start)).left (state (source_of reader)).left answers
+tells {E = E} read state flows start reader answers is so_far = record {
   octets = so_far.octets;
   taken = so_far.taken;
   ahead = events_behind (λ _. read) now [];
@@ -280,7 +281,7 @@ tells {E = E} read left flows start reader answers is so_far = record {
     now = standing_of reader
 
     left_now : Option (List ℕ)
-    left_now = left (source_of reader)
+    left_now = (state (source_of reader)).left
 
     same_flows : now.flows ≡ flows
     same_flows = so_far.same.0 ∙ ap (λ (there : Standing). there.flows) is.start
@@ -323,12 +324,12 @@ calls_on : {I J T : Type 0} (on : I → J) (Call : J → J → Result (Option T)
 calls_on on Call before after [] none = ap on none
 calls_on on Call before after (answer ∷ answers) (between, call, calls) = (on between, call, calls_on on Call between after answers calls)
 
-pub flows_hand_out : {S : Type 0} (left : S → Option (List ℕ)) → FlowsHandOutTaken left (flows_call left)
-flows_hand_out left before after answers is calls =
-    tells datagram_at left true (flows_reader before) (flows_reader after) answers is
-    (more datagram_at left (flows_reader before) (flows_reader before) (flows_reader after) [] answers (fresh datagram_at left true (flows_reader before) is) (calls_on flows_reader (IsInputCall datagram_at left) before after answers calls))
+pub flows_hand_out : {S : Type 0} (state : S → SourceState) → FlowsHandOutTaken state (flows_call state)
+flows_hand_out state before after answers is calls =
+    tells datagram_at state true (flows_reader before) (flows_reader after) answers is
+    (more datagram_at state (flows_reader before) (flows_reader before) (flows_reader after) [] answers (fresh datagram_at state true (flows_reader before) is) (calls_on flows_reader (IsInputCall datagram_at state) before after answers calls))
 
-pub routes_hand_out : {S : Type 0} (left : S → Option (List ℕ)) → RoutesHandOutTaken left (routes_call left)
-routes_hand_out left before after answers is calls =
-    tells route_event_at left false (routes_reader before) (routes_reader after) answers is
-    (more route_event_at left (routes_reader before) (routes_reader before) (routes_reader after) [] answers (fresh route_event_at left false (routes_reader before) is) (calls_on routes_reader (IsInputCall route_event_at left) before after answers calls))
+pub routes_hand_out : {S : Type 0} (state : S → SourceState) → RoutesHandOutTaken state (routes_call state)
+routes_hand_out state before after answers is calls =
+    tells route_event_at state false (routes_reader before) (routes_reader after) answers is
+    (more route_event_at state (routes_reader before) (routes_reader before) (routes_reader after) [] answers (fresh route_event_at state false (routes_reader before) is) (calls_on routes_reader (IsInputCall route_event_at state) before after answers calls))

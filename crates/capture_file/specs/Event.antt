@@ -1,6 +1,8 @@
 -- An event of a capture: kind (1 octet), stamp in milliseconds (8), address (4 or 16), port (2), length (4), and as
 -- many octets as the length says. All numbers are big-endian.
-use Rattle.std.specs.Prelude.{ℕ, ◌+◌, ◌*◌, ◌/◌, ◌%◌, Bool, ◌&&◌, ◌||◌, List, ◌∷◌, ◌++◌, length, drop, max, slice_index, nat_lt, ◌==◌, not, if◌then◌else◌, Result, Ok, Err}
+use Rattle.std.specs.Prelude.{◌≡◌, refl, true, false, ℕ, ◌+◌, ◌*◌, ◌/◌, ◌%◌, Bool, ◌&&◌, ◌||◌, List, ◌∷◌, ◌++◌, length, drop, max, slice_index, nat_lt, ◌==◌, not, if◌then◌else◌, Result, Ok, Err}
+use Rattle.std.proofs.Common.{arith}
+use Rattle.std.proofs.lemmas.Grind.{common_steps}
 use Rattle.byteorder.specs.Endian.{big_bytes}
 use Rattle.acct_types.specs.Numbers.{number_at}
 use Rattle.acct_types.specs.declared.addr.Addr.{Addr}
@@ -11,7 +13,7 @@ use Rattle.acct_types.specs.declared.route_event.Side.TheVariants.{Bgp, Bmp}
 use Rattle.acct_types.specs.declared.route_event.Act.{Act}
 use Rattle.acct_types.specs.declared.route_event.Act.TheVariants.{Up, Bytes, Down, Tick}
 use Rattle.acct_types.specs.declared.route_event.RouteEvent.{RouteEvent}
-use Rattle.acct_types.specs.RouteEvents.{act_octets}
+use Rattle.acct_types.specs.RouteEvents.{act_octets, has_its_side}
 use Rattle.capture_file.specs.declared.flows.CaptureEnd.{CaptureEnd}
 use Rattle.capture_file.specs.declared.flows.CaptureEnd.TheVariants.{Ended, BadKind, Torn, TooLong, TooMany}
 
@@ -100,6 +102,22 @@ act_of event =
     else (if half == 3 || half == 6 then Down
     else Tick))
 
+named : (half : ℕ) → (nat_lt 3 half && nat_lt half 7) ≡ true → ((half == 1 || half == 4) || ((half == 2 || half == 5) || (half == 3 || half == 6))) ≡ true
+named half between = grind (arith, common_steps, between)
+
+has_side : (bmp up bytes down : Bool) (octets : List ℕ) → (bmp ≡ true → (up || (bytes || down)) ≡ true)
+    → has_its_side (if bmp then Bmp else Bgp) (if up then Up else (if bytes then Bytes octets else (if down then Down else Tick))) ≡ true
+has_side false up bytes down octets known = refl
+has_side true true bytes down octets known = refl
+has_side true false true down octets known = refl
+has_side true false false true octets known = refl
+has_side true false false false octets known = known refl
+
+pub reads_its_side : (event : List ℕ) → has_its_side (side_of event) (act_of event) ≡ true
+reads_its_side event =
+    let half = high_half (kind_of event) in
+    has_side (nat_lt 3 half && nat_lt half 7) (half == 1 || half == 4) (half == 2 || half == 5) (half == 3 || half == 6) (octets_of event) (named half)
+
 -- the route event of a whole event, likewise
 abbrev pub route_event_at : ℕ → List ℕ → RouteEvent
 route_event_at moment event = record {
@@ -108,6 +126,7 @@ route_event_at moment event = record {
   address = address_of event;
   port = port_of event;
   act = act_of event;
+  of_its_side = reads_its_side event;
 }
 
 -- the low half of a kind and the octets of an address

@@ -3,10 +3,6 @@ use Rattle.std.specs.Prelude.{◌≡◌, ◌≤◌, ◌<◌, ◌^◌, ℕ, Bool,
 use Rattle.acct_types.specs.declared.addr.Addr.{Addr}
 use Rattle.acct_types.specs.declared.addr.Addr.TheVariants.{V4, V6}
 use Rattle.acct_types.specs.declared.datagram.Datagram.{Datagram}
-use Rattle.acct_types.specs.declared.route_event.Side.{Side}
-use Rattle.acct_types.specs.declared.route_event.Side.TheVariants.{Bgp}
-use Rattle.acct_types.specs.declared.route_event.Act.{Act}
-use Rattle.acct_types.specs.declared.route_event.Act.TheVariants.{Up, Bytes, Down, Tick}
 use Rattle.acct_types.specs.declared.route_event.RouteEvent.{RouteEvent}
 use Rattle.acct_types.specs.RouteEvents.{act_octets}
 use Rattle.capture_file.specs.declared.flows.CaptureEnd.TheVariants.{Ended}
@@ -29,20 +25,12 @@ pub record FitsEvent (d : Datagram) : Type 0 where
   pub port : d.port < 2 ^ 16
   pub octets : length d.octets ≤ LONGEST
 
--- a tick has the side Bgp
-abbrev pub HasItsSide : Act → Side → Type 0
-HasItsSide Up side = Unit {0}
-HasItsSide (Bytes octets) side = Unit {0}
-HasItsSide Down side = Unit {0}
-HasItsSide Tick side = side ≡ Bgp
-
 -- the same of a route event
 pub record FitsRouteEvent (e : RouteEvent) : Type 0 where
   pub moment : e.moment < 2 ^ 64
   pub address : FitsAddress e.address
   pub port : e.port < 2 ^ 16
   pub octets : length (act_octets e.act) ≤ LONGEST
-  pub side : HasItsSide e.act e.side
 
 -- Each datagram has at most as many octets as an event may carry, and the events of all, each of 19 octets at least before those of its
 -- datagram, have at most so many.

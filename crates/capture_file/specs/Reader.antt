@@ -1,6 +1,7 @@
 -- What a reader holds, and what an input over it tells.
 use Rattle.std.specs.Prelude.{◌≡◌, ◌≤◌, ℕ, Bool, true, false, max, List, [], length, Option, Some, None, Result, Ok, Err}
 use Rattle.std.specs.Option.{option_map}
+use Rattle.outside_io.specs.States.{SourceState, InputState}
 use Rattle.outside_io.specs.declared.fault.IoFault.{IoFault}
 use Rattle.outside_io.specs.declared.fault.IoFault.TheVariants as io
 use Rattle.outside_io.specs.declared.input_fault.InputFault.{InputFault}
@@ -69,8 +70,8 @@ end_answer (capture.TooLong place) = Err (fault.TooLong place)
 end_answer capture.TooMany = Err fault.TooMany
 
 -- One call of an input over a live reader, with what the source told before and after it: the reader was called, and goes on as the answer says.
-pub record IsLiveCall {E S : Type 0} (read : ℕ → List ℕ → E) (left : S → Option (List ℕ)) (before after : CaptureReader S) (result : Result (Option E) InputFault) : Type 0 where
-  pub call : IsCall read (standing_of before) (standing_of after) (left (source_of before)) (left (source_of after)) result
+pub record IsLiveCall {E S : Type 0} (read : ℕ → List ℕ → E) (state : S → SourceState) (before after : CaptureReader S) (result : Result (Option E) InputFault) : Type 0 where
+  pub call : IsCall read (standing_of before) (standing_of after) (state (source_of before)).left (state (source_of after)).left result
   pub progress : progress_of after ≡ progress_after result
 
 -- one of an input over a reader that isn't live: nothing changed, and that was answered
@@ -80,14 +81,14 @@ pub record IsIdleCall {E S : Type 0} (before after : CaptureReader S) (result sa
 
 -- One call of an input over a reader, by how it goes on: once the capture ended its end is answered again, and want of memory once a
 -- read or memory failed.
-abbrev pub IsCallAt : {E S : Type 0} → Progress → (ℕ → List ℕ → E) → (S → Option (List ℕ)) → CaptureReader S → CaptureReader S → Result (Option E) InputFault → Type 0
-IsCallAt Live read left before after result = IsLiveCall read left before after result
-IsCallAt (Over end) read left before after result = IsIdleCall before after result (end_answer end)
-IsCallAt Failed read left before after result = IsIdleCall before after result (Err fault.NoMemory)
+abbrev pub IsCallAt : {E S : Type 0} → Progress → (ℕ → List ℕ → E) → (S → SourceState) → CaptureReader S → CaptureReader S → Result (Option E) InputFault → Type 0
+IsCallAt Live read state before after result = IsLiveCall read state before after result
+IsCallAt (Over end) read state before after result = IsIdleCall before after result (end_answer end)
+IsCallAt Failed read state before after result = IsIdleCall before after result (Err fault.NoMemory)
 
 -- one call of an input over a reader
-abbrev pub IsInputCall : {E S : Type 0} → (ℕ → List ℕ → E) → (S → Option (List ℕ)) → CaptureReader S → CaptureReader S → Result (Option E) InputFault → Type 0
-IsInputCall read left before after result = IsCallAt (progress_of before) read left before after result
+abbrev pub IsInputCall : {E S : Type 0} → (ℕ → List ℕ → E) → (S → SourceState) → CaptureReader S → CaptureReader S → Result (Option E) InputFault → Type 0
+IsInputCall read state before after result = IsCallAt (progress_of before) read state before after result
 
 abbrev pub io_answer : {E : Type 0} → IoFault → Result (Option E) InputFault
 io_answer io.Failed = Err fault.ReadFault
@@ -116,6 +117,23 @@ ending_told there progress (Some octets) = ending_at there progress octets
 
 abbrev pub ending_of : {S : Type 0} → Option (List ℕ) → CaptureReader S → Option InputFault
 ending_of left reader = ending_told (standing_of reader) (progress_of reader) left
+
+-- the capture's end was answered
+abbrev pub says_end : Progress → Bool
+says_end (Over capture.Ended) = true
+says_end progress = false
+
+-- what an input over a reader tells
+abbrev pub input_state : {E S : Type 0} → (ℕ → List ℕ → E) → (S → SourceState) → CaptureReader S → InputState E
+input_state read state reader = record {
+  left = told_of read (state (source_of reader)).left reader;
+  ending = ending_of (state (source_of reader)).left reader;
+  handed = None;
+  ended = says_end (progress_of reader);
+  moment = (standing_of reader).moment;
+  faults = (state (source_of reader)).faults;
+  captured = true;
+}
 
 -- an event that was handed out is what some octets are read as, behind the greatest stamp before them
 pub record IsReadOf {E : Type 0} (read : ℕ → List ℕ → E) (moment_before moment_now : ℕ) (event : E) : Type 0 where

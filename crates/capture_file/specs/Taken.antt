@@ -5,6 +5,7 @@ use Rattle.acct_types.specs.declared.datagram.Datagram.{Datagram}
 use Rattle.outside_io.specs.Calls.{Calls, EndWith, handed_out}
 use Rattle.outside_io.specs.Inputs.{is_of_capture}
 use Rattle.outside_io.specs.Octets.{Takes}
+use Rattle.outside_io.specs.States.{SourceState}
 use Rattle.outside_io.specs.declared.input_fault.InputFault.{InputFault}
 use Rattle.acct_types.specs.declared.route_event.RouteEvent.{RouteEvent}
 use Rattle.capture_file.specs.declared.flows.CaptureEnd.{CaptureEnd}
@@ -43,16 +44,16 @@ pub record HandsOutTaken {E : Type 0} (events_in : List ℕ → List E) (end_in 
   pub bad : (error : InputFault) → EndWith answers (Err error) → IsTrue (is_of_capture error) → EndsWithFault events_in end_in octets (handed_out answers) error
   pub bad_on : (error : InputFault) (later : List ℕ) → EndWith answers (Err error) → IsTrue (is_of_capture error) → left_after ≡ Some later → EndsWithFault events_in end_in (octets ++ later) (handed_out answers) error
 
--- any calls of an input over a reader of flows whose `next` wasn't called, and what `left` tells of its source
-abbrev pub FlowsHandOutTaken : {S : Type 0} → (S → Option (List ℕ)) → (CaptureFlows S → CaptureFlows S → Result (Option Datagram) InputFault → Type 0) → Type 0
-FlowsHandOutTaken {S = S} left Call =
+-- any calls of an input over a reader of flows whose `next` wasn't called, and what `state` tells of its source
+abbrev pub FlowsHandOutTaken : {S : Type 0} → (S → SourceState) → (CaptureFlows S → CaptureFlows S → Result (Option Datagram) InputFault → Type 0) → Type 0
+FlowsHandOutTaken {S = S} state Call =
     (before after : CaptureFlows S) (answers : List (Result (Option Datagram) InputFault)) → IsFresh true (flows_reader before) → Calls Call before after answers
     → let most = (standing_of (flows_reader before)).most in
-    HandsOutTaken (datagrams_of most) (end_of most) (left (source_of (flows_reader before))) (left (source_of (flows_reader after))) answers
+    HandsOutTaken (datagrams_of most) (end_of most) (state (source_of (flows_reader before))).left (state (source_of (flows_reader after))).left answers
 
 -- the same of an input over a reader of routes
-abbrev pub RoutesHandOutTaken : {S : Type 0} → (S → Option (List ℕ)) → (CaptureRoutes S → CaptureRoutes S → Result (Option RouteEvent) InputFault → Type 0) → Type 0
-RoutesHandOutTaken {S = S} left Call =
+abbrev pub RoutesHandOutTaken : {S : Type 0} → (S → SourceState) → (CaptureRoutes S → CaptureRoutes S → Result (Option RouteEvent) InputFault → Type 0) → Type 0
+RoutesHandOutTaken {S = S} state Call =
     (before after : CaptureRoutes S) (answers : List (Result (Option RouteEvent) InputFault)) → IsFresh false (routes_reader before) → Calls Call before after answers
     → let most = (standing_of (routes_reader before)).most in
-    HandsOutTaken (route_events_of most) (route_end_of most) (left (source_of (routes_reader before))) (left (source_of (routes_reader after))) answers
+    HandsOutTaken (route_events_of most) (route_end_of most) (state (source_of (routes_reader before))).left (state (source_of (routes_reader after))).left answers

@@ -4,7 +4,7 @@ ghost use Rattle.std.specs.Prelude.{◌≡◌, List, ℕ, Some, None, true, fals
 ghost use Rattle.std.specs.Option.{option_map};
 ghost use Rattle.capture_file.specs.Capture.{datagrams_of, end_of, route_end_of, route_events_of};
 ghost use Rattle.capture_file.specs.Event.{datagram_at, route_event_at};
-ghost use Rattle.capture_file.specs.Inputs.{flows_call, flows_ending, flows_left, flows_reader, routes_call, routes_ending, routes_left, routes_reader};
+ghost use Rattle.capture_file.specs.Inputs.{flows_call, flows_ended, flows_ending, flows_left, flows_reader, flows_state, routes_call, routes_ended, routes_ending, routes_left, routes_reader, routes_state};
 ghost use Rattle.capture_file.specs.Reader.{source_of, standing_of, IsFresh};
 ghost use Rattle.capture_file.specs.Reading.{fault_of};
 
@@ -23,8 +23,9 @@ impl<S: Source> CaptureFlows<S> {
     pub fn new(reader: CaptureReader<S>) -> CaptureFlows<S>
         requires { IsFresh true reader }
         ensures reader { flows_reader result ≡ reader }
-        ensures left { flows_left S.left result ≡ option_map (datagrams_of (standing_of reader).most) (S.left (source_of reader)) }
-        ensures ending { (octets : List ℕ) → S.left (source_of reader) ≡ Some octets → flows_ending S.left result ≡ fault_of (end_of (standing_of reader).most octets) }
+        ensures goes_on { flows_ended result ≡ false }
+        ensures left { flows_left S.state result ≡ option_map (datagrams_of (standing_of reader).most) (S.state (source_of reader)).left }
+        ensures ending { (octets : List ℕ) → (S.state (source_of reader)).left ≡ Some octets → flows_ending S.state result ≡ fault_of (end_of (standing_of reader).most octets) }
     {
         CaptureFlows { reader }
     }
@@ -39,19 +40,9 @@ impl<S: Source> CaptureFlows<S> {
 }
 
 impl<S: Source> Datagrams for CaptureFlows<S> {
-    ghost left = { flows_left S.left };
+    ghost state = { flows_state S.state };
 
-    ghost ending = { flows_ending S.left };
-
-    ghost handed = { λ _. None };
-
-    ghost moment = { λ flows. (standing_of (flows_reader flows)).moment };
-
-    ghost faults = { λ flows. S.faults (source_of (flows_reader flows)) };
-
-    ghost captured = { λ _. true };
-
-    ghost call = { flows_call S.left };
+    ghost call = { flows_call S.state };
 
     fn next(&mut self) -> Result<Option<Datagram>, InputFault> {
         self.reader.hand_out::<Datagram>()
@@ -69,8 +60,9 @@ impl<S: Source> CaptureRoutes<S> {
     pub fn new(reader: CaptureReader<S>) -> CaptureRoutes<S>
         requires { IsFresh false reader }
         ensures reader { routes_reader result ≡ reader }
-        ensures left { routes_left S.left result ≡ option_map (route_events_of (standing_of reader).most) (S.left (source_of reader)) }
-        ensures ending { (octets : List ℕ) → S.left (source_of reader) ≡ Some octets → routes_ending S.left result ≡ fault_of (route_end_of (standing_of reader).most octets) }
+        ensures goes_on { routes_ended result ≡ false }
+        ensures left { routes_left S.state result ≡ option_map (route_events_of (standing_of reader).most) (S.state (source_of reader)).left }
+        ensures ending { (octets : List ℕ) → (S.state (source_of reader)).left ≡ Some octets → routes_ending S.state result ≡ fault_of (route_end_of (standing_of reader).most octets) }
     {
         CaptureRoutes { reader }
     }
@@ -85,23 +77,11 @@ impl<S: Source> CaptureRoutes<S> {
 }
 
 impl<S: Source + Drop> Sessions for CaptureRoutes<S> {
-    ghost left = { routes_left S.left };
+    ghost state = { routes_state S.state };
 
-    ghost ending = { routes_ending S.left };
+    ghost replies = { λ _. record { sent = None; faults = 0 } };
 
-    ghost handed = { λ _. None };
-
-    ghost moment = { λ routes. (standing_of (routes_reader routes)).moment };
-
-    ghost faults = { λ routes. S.faults (source_of (routes_reader routes)) };
-
-    ghost captured = { λ _. true };
-
-    ghost sent = { λ _. None };
-
-    ghost reply_faults = { λ _. 0 };
-
-    ghost call = { routes_call S.left };
+    ghost call = { routes_call S.state };
 
     fn next(&mut self) -> Result<Option<RouteEvent>, InputFault> {
         self.reader.hand_out::<RouteEvent>()

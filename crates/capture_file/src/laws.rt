@@ -60,10 +60,10 @@ pub fn what_a_call_takes_is_unique()
 /// Any calls of an input over a fresh reader of flows hand out the first datagrams of the octets that they took of its source, and all of them
 /// where the last answer is the end or a fault other than want of memory.
 pub fn flows_hand_out_what_they_took<S: Source>()
-    ensures { FlowsHandOutTaken S.left ⟦<CaptureFlows<S> as Datagrams>⟧.call }
+    ensures { FlowsHandOutTaken S.state ⟦<CaptureFlows<S> as Datagrams>⟧.call }
 {}
 
 /// The same of an input over a fresh reader of routes.
 pub fn routes_hand_out_what_they_took<S: Source + Drop>()
-    ensures { RoutesHandOutTaken S.left ⟦<CaptureRoutes<S> as Sessions>⟧.call }
+    ensures { RoutesHandOutTaken S.state ⟦<CaptureRoutes<S> as Sessions>⟧.call }
 {}

@@ -1,10 +1,10 @@
 //! Captures read one event a call.
 
 ghost use Rattle.std.specs.Prelude.{◌≡◌, ◌≤◌, ◌-◌, ◌^◌, ◌++◌, List, ℕ, Bool, [], length, true, false, IsTrue};
-ghost use Rattle.outside_io.specs.Inputs.{append_told, given, prepend_told, EndsAs, HasInputCause, IfGiven};
+ghost use Rattle.outside_io.specs.Inputs.{append_told, given, prepend_told, EndsAs, EndsHere, HasInputCause, IfGiven};
 ghost use Rattle.capture_file.specs.Standing.{at_start, is_open, past_magic};
 ghost use Rattle.capture_file.specs.Reading.{event_of, fault_of, step_at, IsCall, Reads, ReadsOn};
-ghost use Rattle.capture_file.specs.Reader.{end_answer, ending_of, io_answer, is_live, progress_after, progress_of, source_of, standing_of, told_of, is_live_after, IsFresh, IsInputCall, IsRead};
+ghost use Rattle.capture_file.specs.Reader.{end_answer, ending_of, io_answer, is_live, progress_after, progress_of, says_end, source_of, standing_of, told_of, is_live_after, IsFresh, IsInputCall, IsRead};
 ghost use Rattle.capture_file.specs.declared.reader.Step.{Step};
 
 use crate::flows::CaptureEnd;
@@ -102,10 +102,10 @@ fn read_event<E: ReadEvent, S: Source>(
     reading: &mut Reading,
     source: &mut S,
 ) -> Result<Option<E>, InputFault>
-    ensures call { IsCall (E.at reading.old.flows) reading.old reading.new (S.left source.old) (S.left source.new) result }
+    ensures call { IsCall (E.at reading.old.flows) reading.old reading.new (S.state source.old).left (S.state source.new).left result }
     ensures few { length reading.new.ahead ≤ 65566 }
     ensures idle { is_open (past_magic reading.old) ≡ false → source.new ≡ source.old }
-    ensures cause { HasInputCause (S.faults source.old) (S.faults source.new) result }
+    ensures cause { HasInputCause (S.state source.old).faults (S.state source.new).faults result }
 {
     match reading.look(source) {
         Err(fault) => io_answer(fault),
@@ -141,11 +141,11 @@ impl<S: Source> CaptureReader<S> {
     }
 
     fn next_event<E: ReadEvent>(&mut self) -> Result<Option<E>, InputFault>
-        ensures call { IsCall (E.at (standing_of self.old).flows) (standing_of self.old) (standing_of self.new) (S.left (source_of self.old)) (S.left (source_of self.new)) result }
+        ensures call { IsCall (E.at (standing_of self.old).flows) (standing_of self.old) (standing_of self.new) (S.state (source_of self.old)).left (S.state (source_of self.new)).left result }
         ensures few { length (standing_of self.new).ahead ≤ 65566 }
         ensures progress { progress_of self.new ≡ progress_after result }
         ensures idle { is_open (past_magic (standing_of self.old)) ≡ false → source_of self.new ≡ source_of self.old }
-        ensures cause { HasInputCause (S.faults (source_of self.old)) (S.faults (source_of self.new)) result }
+        ensures cause { HasInputCause (S.state (source_of self.old)).faults (S.state (source_of self.new)).faults result }
     {
         let answer = read_event::<E, S>(&mut self.reading, &mut self.source);
         self.progress = progress_after(&answer);
@@ -156,13 +156,13 @@ impl<S: Source> CaptureReader<S> {
     /// After an error all octets that were taken are ahead still.
     pub fn next(&mut self) -> Result<Step, InputFault>
         requires { IsTrue (is_live self.old) }
-        ensures call { IsCall (step_at (standing_of self.old).flows) (standing_of self.old) (standing_of self.new) (S.left (source_of self.old)) (S.left (source_of self.new)) (event_of result) }
+        ensures call { IsCall (step_at (standing_of self.old).flows) (standing_of self.old) (standing_of self.new) (S.state (source_of self.old)).left (S.state (source_of self.new)).left (event_of result) }
         ensures live { is_live self.new ≡ is_live_after result }
         ensures idle { is_open (past_magic (standing_of self.old)) ≡ false → source_of self.new ≡ source_of self.old }
-        ensures cause { HasInputCause (S.faults (source_of self.old)) (S.faults (source_of self.new)) result }
+        ensures cause { HasInputCause (S.state (source_of self.old)).faults (S.state (source_of self.new)).faults result }
         ensures ahead { length (standing_of self.new).ahead ≤ 65566 }
         ensures reads { (octets : List ℕ) (steps : List Step) → Reads step_at (standing_of self.old) octets steps
-            → ReadsOn step_at (standing_of self.new) (S.left (source_of self.old)) (S.left (source_of self.new)) octets steps (event_of result) }
+            → ReadsOn step_at (standing_of self.new) (S.state (source_of self.old)).left (S.state (source_of self.new)).left octets steps (event_of result) }
     {
         match self.next_event::<Step>() {
             Ok(Some(step)) => Ok(step),
@@ -186,13 +186,14 @@ impl<S: Source> CaptureReader<S> {
 
     /// The next event as an input gives it: once the capture ended, its end again; once a read or memory failed, NoMemory.
     pub(crate) fn hand_out<E: ReadEvent>(&mut self) -> Result<Option<E>, InputFault>
-        ensures left { prepend_told (given result) (told_of (E.at (standing_of self.old).flows) (S.left (source_of self.new)) self.new) ≡ told_of (E.at (standing_of self.old).flows) (S.left (source_of self.old)) self.old }
-        ensures ends { EndsAs (told_of (E.at (standing_of self.old).flows) (S.left (source_of self.old)) self.old) (ending_of (S.left (source_of self.old)) self.old) result }
-        ensures ending { ending_of (S.left (source_of self.new)) self.new ≡ ending_of (S.left (source_of self.old)) self.old }
+        ensures left { prepend_told (given result) (told_of (E.at (standing_of self.old).flows) (S.state (source_of self.new)).left self.new) ≡ told_of (E.at (standing_of self.old).flows) (S.state (source_of self.old)).left self.old }
+        ensures ends { EndsAs (told_of (E.at (standing_of self.old).flows) (S.state (source_of self.old)).left self.old) (ending_of (S.state (source_of self.old)).left self.old) result }
+        ensures ending { ending_of (S.state (source_of self.new)).left self.new ≡ ending_of (S.state (source_of self.old)).left self.old }
         ensures flows { (standing_of self.new).flows ≡ (standing_of self.old).flows }
-        ensures call { IsInputCall (E.at (standing_of self.old).flows) S.left self.old self.new result }
+        ensures call { IsInputCall (E.at (standing_of self.old).flows) S.state self.old self.new result }
+        ensures ended { EndsHere (says_end (progress_of self.old)) (says_end (progress_of self.new)) result }
         ensures event { IsRead (E.at (standing_of self.old).flows) (standing_of self.old).moment (standing_of self.new).moment result }
-        ensures cause { HasInputCause (S.faults (source_of self.old)) (S.faults (source_of self.new)) result }
+        ensures cause { HasInputCause (S.state (source_of self.old)).faults (S.state (source_of self.new)).faults result }
     {
         match self.progress {
             Progress::Live => self.next_event::<E>(),

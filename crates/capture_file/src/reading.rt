@@ -106,11 +106,11 @@ impl Reading {
     fn refill<S: Source>(&mut self, source: &mut S) -> Result<usize, IoFault>
         requires { length self.old.ahead < 65566 }
         ensures octets { IfOk result (λ n. (octets : List ℕ) × (length octets ≡ n) × (self.new ≡ record self.old { ahead = self.old.ahead ++ octets })
-            × Takes (S.left source.old) octets (S.left source.new)) }
+            × Takes (S.state source.old).left octets (S.state source.new).left) }
         ensures few { length self.new.ahead ≤ 65566 }
-        ensures end { IfOk result (λ n. n ≡ 0 → IsAtEnd (S.left source.new)) }
-        ensures err { OnErr result ((self.new ≡ self.old) × (S.left source.new ≡ S.left source.old)) }
-        ensures cause { HasCause (S.faults source.old) (S.faults source.new) result }
+        ensures end { IfOk result (λ n. n ≡ 0 → IsAtEnd (S.state source.new).left) }
+        ensures err { OnErr result ((self.new ≡ self.old) × ((S.state source.new).left ≡ (S.state source.old).left)) }
+        ensures cause { HasCause (S.state source.old).faults (S.state source.new).faults result }
     {
         let read = self.window.refill(source);
         let _octets = self.window.as_slice();
@@ -120,10 +120,10 @@ impl Reading {
     /// Reads until the octets ahead decide what stands at the front, or the source has none left. How many octets the event has that
     /// stands there, or why none does.
     pub fn look<S: Source>(&mut self, source: &mut S) -> Result<Result<usize, CaptureEnd>, IoFault>
-        ensures looked { Looked self.old self.new (S.left source.old) (S.left source.new) result }
+        ensures looked { Looked self.old self.new (S.state source.old).left (S.state source.new).left result }
         ensures few { length self.new.ahead ≤ 65566 }
         ensures idle { is_open (past_magic self.old) ≡ false → source.new ≡ source.old }
-        ensures cause { HasCause (S.faults source.old) (S.faults source.new) result }
+        ensures cause { HasCause (S.state source.old).faults (S.state source.new).faults result }
     {
         loop {
             self.pass_magic();

@@ -1,7 +1,10 @@
 ghost use Rattle.std.specs.Prelude.{◌≤◌, length, IfOk};
 ghost use Rattle.acct_types.specs.RouteEvents.{act_octets};
 
-use crate::{CaptureEnd, CaptureFlows, CaptureReader, CaptureRoutes, FlowCapture, Step, split_flows, write_flow, write_magic, write_route};
+use crate::{
+    CaptureEnd, CaptureFlows, CaptureReader, CaptureRoutes, FlowCapture, Step, split_flows,
+    write_flow, write_magic, write_route,
+};
 use acct_types::{Act, Addr, Datagram, List, NoMemory, Octets, RouteEvent, Side};
 use outside_io::{Datagrams, InputFault, MemorySource, Sessions, Source};
 use std::alloc::Global;
@@ -306,16 +309,14 @@ const FROM_V6: &[u8] =
 fn route_event(alloc: Global, high: u8, address: Addr) -> Result<RouteEvent, NoMemory>
     ensures { IfOk result (λ event. length (act_octets event.act) ≤ 65535) }
 {
-    let side = if matches!(high, 4..=6) {
-        Side::Bmp
-    } else {
-        Side::Bgp
-    };
-    let act = match high {
-        1 | 4 => Act::Up,
-        2 | 5 => Act::Bytes(List::from_slice(alloc, &[7, 8])?),
-        3 | 6 => Act::Down,
-        _ => Act::Tick,
+    let (side, act) = match high {
+        1 => (Side::Bgp, Act::Up),
+        2 => (Side::Bgp, Act::Bytes(List::from_slice(alloc, &[7, 8])?)),
+        3 => (Side::Bgp, Act::Down),
+        4 => (Side::Bmp, Act::Up),
+        5 => (Side::Bmp, Act::Bytes(List::from_slice(alloc, &[7, 8])?)),
+        6 => (Side::Bmp, Act::Down),
+        _ => (Side::Bgp, Act::Tick),
     };
     Ok(RouteEvent {
         moment: 1000,

@@ -30,9 +30,9 @@ fn read_at_end<S: Source>(source: &mut S, buffer: &mut [u8], end: usize) -> Resu
     requires { end < length buffer.old }
     ensures kept { take end buffer.new ≡ take end buffer.old }
     ensures bound { ReadsAtMost result (drop end buffer.new) }
-    ensures octets { ReadTakes (S.left source.old) (S.left source.new) result (drop end buffer.new) }
-    ensures end { IfOk result (λ n. n ≡ 0 → IsAtEnd (S.left source.old)) }
-    ensures cause { HasCause (S.faults source.old) (S.faults source.new) result }
+    ensures octets { ReadTakes (S.state source.old).left (S.state source.new).left result (drop end buffer.new) }
+    ensures end { IfOk result (λ n. n ≡ 0 → IsAtEnd (S.state source.old).left) }
+    ensures cause { HasCause (S.state source.old).faults (S.state source.new).faults result }
 {
     source.read(&mut buffer[end..])
 }
@@ -110,10 +110,10 @@ impl Window {
     pub fn refill<S: Source>(&mut self, source: &mut S) -> Result<usize, IoFault>
         requires { length (ahead_of self.old) < 65566 }
         ensures octets { IfOk result (λ n. (octets : List ℕ) × (length octets ≡ n) × (ahead_of self.new ≡ ahead_of self.old ++ octets)
-            × Takes (S.left source.old) octets (S.left source.new)) }
-        ensures end { IfOk result (λ n. n ≡ 0 → IsAtEnd (S.left source.new)) }
-        ensures err { OnErr result ((ahead_of self.new ≡ ahead_of self.old) × (S.left source.new ≡ S.left source.old)) }
-        ensures cause { HasCause (S.faults source.old) (S.faults source.new) result }
+            × Takes (S.state source.old).left octets (S.state source.new).left) }
+        ensures end { IfOk result (λ n. n ≡ 0 → IsAtEnd (S.state source.new).left) }
+        ensures err { OnErr result ((ahead_of self.new ≡ ahead_of self.old) × ((S.state source.new).left ≡ (S.state source.old).left)) }
+        ensures cause { HasCause (S.state source.old).faults (S.state source.new).faults result }
     {
         self.make_room()?;
         let end = self.end;

@@ -1,6 +1,6 @@
 -- On octets that are taken or written a piece at a time, told or not.
 use Rattle.std.proofs.Common.{◌≡◌, ◌≤◌, ℕ, ◌+◌, List, [], ◌++◌, take, drop, length, Option, Some, None, refl, ap, sym, ◌∙◌, append_assoc, arith}
-use Rattle.std.specs.Io.KnownBytes.{prepend_known, append_known}
+use Rattle.std.specs.Io.KnownBytes.{prepend_known, append_known, Appends, Keeps}
 use Rattle.std.proofs.lemmas.Grind.{common_steps}
 use Rattle.std.proofs.lemmas.List.{take_at, length-take-le, drop-drop, take-append-drop}
 use Rattle.outside_io.specs.Octets.{Takes, WritesFront}
@@ -72,3 +72,9 @@ WritesFront-more old now new octets rest so_far more =
       splits = so_far.splits ∙ ap (λ x. so_far.done ++ x) more.splits ∙ sym (append_assoc so_far.done more.front more.rest);
       held = more.held ∙ ap (λ o. append_known o more.front) so_far.held ∙ append_known-append_known old so_far.done more.front;
     }
+
+-- a write of no octet keeps what is held
+pub nothing_kept : (old new : Option (List ℕ)) (piece : List ℕ) (n : ℕ) → n ≡ 0 → Appends old new (take n piece) → Keeps old new
+nothing_kept None new piece n none added = tt
+nothing_kept (Some xs) None piece n none added = added
+nothing_kept (Some xs) (Some ys) piece n none added = added ∙ grind (arith, common_steps, none)

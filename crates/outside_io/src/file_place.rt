@@ -1,6 +1,9 @@
-ghost use Rattle.std.specs.Prelude.{◌≡◌, List, ℕ, None, false};
+ghost use Rattle.std.specs.Prelude.{◌≡◌, ◌<◌, List, ℕ, length, false, IfOk};
+ghost use Rattle.std.specs.Io.{ReadsAtMost, WritesAtMost};
+ghost use Rattle.std.specs.Io.KnownBytes.{ReadConsumes, WriteAppends};
+ghost use Rattle.outside_io.specs.Causes.{HasCause};
 ghost use Rattle.outside_io.specs.FilePlace.{file_open_faults, file_read_faults, file_write_faults, file_state};
-ghost use Rattle.outside_io.specs.SayOut.{say_faults};
+ghost use Rattle.outside_io.specs.SayOut.{file_of, file_source_state, say_faults, say_state, writer_of};
 
 use crate::named::NamedValues;
 use crate::{Begin, IoFault, Place, Sink, Source};
@@ -17,10 +20,24 @@ pub struct FileSource<F: Read + Drop> {
     faults: u64,
 }
 
-impl<F: Read + Drop> Source for FileSource<F> {
-    ghost state = { λ source. record { left = None; faults = source.faults } };
+impl<F: Read + Drop> FileSource<F> {
+    pub fn new(file: F) -> FileSource<F>
+        ensures { (file_source_state result).faults ≡ 0 }
+    {
+        FileSource { file, faults: 0 }
+    }
+}
 
-    fn read(&mut self, buf: &mut [u8]) -> Result<usize, IoFault> {
+impl<F: Read + Drop> Source for FileSource<F> {
+    ghost state = { file_source_state };
+
+    /// Where the reader of std tells what it has left: that many octets of it were taken, none where it answers that
+    /// none are left or that it failed.
+    fn read(&mut self, buf: &mut [u8]) -> Result<usize, IoFault>
+        ensures bound { ReadsAtMost result buf.new }
+        ensures cause { HasCause (file_source_state self.old).faults (file_source_state self.new).faults result }
+        ensures bytes { ReadConsumes (F.remaining (file_of self.old)) (F.remaining (file_of self.new)) result buf.new }
+    {
         match self.file.read(buf) {
             Ok(count) => Ok(count),
             Err(_) => {
@@ -47,9 +64,17 @@ impl<W: Write + Drop> SayOut<W> {
 }
 
 impl<W: Write + Drop> Sink for SayOut<W> {
-    ghost state = { λ out. record { held = None; faults = say_faults out } };
+    ghost state = { say_state };
 
-    fn write(&mut self, piece: &[u8]) -> Result<usize, IoFault> {
+    /// Where the writer of std tells what it holds: it has as many octets of the piece as the answer says behind those
+    /// that it had, none after an error.
+    #[tactic(auto, using(crate::proofs::Octets::nothing_kept))]
+    fn write(&mut self, piece: &[u8]) -> Result<usize, IoFault>
+        ensures bound { WritesAtMost result piece.now }
+        ensures progress { IfOk result (λ n. 0 < length piece.now → 0 < n) }
+        ensures cause { HasCause (say_faults self.old) (say_faults self.new) result }
+        ensures bytes { WriteAppends (W.contents (writer_of self.old)) (W.contents (writer_of self.new)) result piece.now }
+    {
         match self.writer.write(piece) {
             Ok(count) if count > 0 || piece.is_empty() => Ok(count),
             _ => {
@@ -106,7 +131,7 @@ where
         let mut how = OpenOptions::new();
         how.read(true);
         match self.open(&how, name) {
-            Some(file) => Ok(FileSource { file, faults: 0 }),
+            Some(file) => Ok(FileSource::new(file)),
             None => {
                 self.open_faults.raise(name)?;
                 Err(IoFault::Failed)

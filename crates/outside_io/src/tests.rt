@@ -248,7 +248,7 @@ fn events_that_go_back_or_are_too_long_cannot_come(rt: HostRuntime) -> Result<()
 fn event_of(moment: u64, act: Act) -> RouteEvent {
     RouteEvent {
         moment,
-        side: Side::Bmp,
+        side: Side::Bgp,
         address: Addr::V6(9),
         port: 179,
         act,

@@ -9,7 +9,7 @@ pub returns-in-Ok-Some-clause-reads : goal.returns-in-Ok-Some-clause-reads
 returns-in-Ok-Some-clause-reads g c =
     let call = rw c.in-Ok-Some.field-0-is at c.in-Ok-Some.ensures.call in
     λ octets steps so_far.
-    subst (λ (r : Result (Option Step) InputFault). ReadsOn step_at c.next_event.new.self.reading (g.S.Source.left c.args.self.now.source) (g.S.Source.left c.next_event.new.self.source) octets steps r)
+    subst (λ (r : Result (Option Step) InputFault). ReadsOn step_at c.next_event.new.self.reading (g.S.Source.state c.args.self.now.source).left (g.S.Source.state c.next_event.new.self.source).left octets steps r)
     (sym (step_is_event _ _ _ c.in-Ok-Some.step call.answer.same))
     (call_reads step_at c.args.self.now.reading c.next_event.new.self.reading _ _ _ octets steps call so_far)
 

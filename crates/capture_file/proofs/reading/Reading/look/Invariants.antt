@@ -5,8 +5,8 @@ use Rattle.capture_file.proofs.reading.Reading.look.Given as goal
 
 abbrev pub invariant-loop-judged : goal.invariant-loop-judged
 invariant-loop-judged g l = record {
-  reaching : IsReaching l.fn.self l.self l.fn.source l.source (g.S.Source.left l.fn.source) (g.S.Source.left l.source);
-  later : g.S.Source.faults l.fn.source ≤ g.S.Source.faults l.source;
+  reaching : IsReaching l.fn.self l.self l.fn.source l.source (g.S.Source.state l.fn.source).left (g.S.Source.state l.source).left;
+  later : (g.S.Source.state l.fn.source).faults ≤ (g.S.Source.state l.source).faults;
 }
 
 -- the octets that may still be taken; those of the magic leave
