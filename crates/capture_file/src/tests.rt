@@ -6,7 +6,7 @@ use crate::{
     write_flow, write_magic, write_route,
 };
 use acct_types::{Act, Addr, Datagram, List, NoMemory, Octets, RouteEvent, Side};
-use outside_io::{Datagrams, InputFault, MemorySource, Sessions, Source};
+use outside_io::{Datagrams, InputFault, MemorySource, Sessions};
 use std::alloc::Global;
 use std::test::Fail;
 
@@ -268,34 +268,18 @@ fn a_failed_read_loses_no_octet(rt: HostRuntime) -> Result<(), Fail> {
         let octets = joined(alloc, &[MAGIC, SMALL, WIDE])?;
         let source = MemorySource::new(octets, 7, List::from_slice(alloc, &[failing])?);
         let mut flows = CaptureFlows::new(CaptureReader::new(alloc, source, true, 1000));
-        let mut count = 0u64;
-        let mut fault = None;
-        for _ in 0..3u8 {
-            match flows.next() {
-                Ok(Some(_)) => count = count.saturating_add(1),
-                Ok(None) => break,
-                Err(met) => {
-                    fault = Some(met);
-                    break;
-                }
-            }
+        let mut got = Octets::new(alloc);
+        for _ in 0..4u8 {
+            got.push(match flows.next() {
+                Ok(Some(_)) => b'd',
+                Ok(None) => b'.',
+                Err(InputFault::ReadFault) => b'!',
+                Err(_) => b'?',
+            })?;
         }
-        assert!(rt; fault == Some(InputFault::ReadFault));
-        assert!(rt;
-            count
-                == if failing < 5 {
-                    0
-                } else if failing < 10 {
-                    1
-                } else {
-                    2
-                }
-        );
-        assert!(rt; matches!(flows.next(), Err(InputFault::NoMemory)));
-        let mut source = flows.into_source();
-        assert!(rt; source.left_len() as u64 == 61u64.saturating_sub(7 * (failing - 1)));
-        let mut buf = [0u8; 1];
-        assert!(rt; source.read(&mut buf).is_ok());
+        let wanted: &[u8] = if failing < 5 { b"!dd." } else { b"d!d." };
+        assert!(rt; got.as_slice() == wanted, "read {failing}");
+        assert!(rt; flows.into_source().left_len() == 0);
     }
     Ok(())
 }
