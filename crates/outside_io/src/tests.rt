@@ -352,7 +352,7 @@ fn acts<S: Sessions>(alloc: Global, input: &mut S, calls: u8) -> Result<Octets, 
     let mut got = Octets::new(alloc);
     for _ in 0..calls {
         match input.next() {
-            Ok(Some(event)) => match event.act {
+            Ok(Some(event)) => match &event.act {
                 Act::Up => got.push(b'u')?,
                 Act::Bytes(octets) => got.extend(octets.as_slice())?,
                 Act::Down => got.push(b'd')?,
