@@ -37,40 +37,6 @@ own_is_short flows most used octets width is =
     let short = short_event flows most used octets width is in
     omega (arith, same, short)
 
-wide : (kind : ℕ) → 19 ≤ header_width kind
-wide kind = grind arith
-
--- more room is enough
-more_room : (some more : ℕ) (ds : List Datagram) → some ≤ more → FitIn some ds → FitIn more ds
-more_room some more [] h fits = tt
-more_room some more (d ∷ ds) h fits =
-    let first = fits.1 in
-    (fits.0, omega (arith, first), more_room (some - (19 + length d.octets)) (more - (19 + length d.octets)) ds (omega (arith, h)) fits.2)
-
-pub fit_in : (flows : Bool) (fuel most used moment : ℕ) (octets : List ℕ) → used ≤ most → FitIn (most - used) (read_behind datagram_at moment (events_from flows fuel most used octets))
-fit_in flows zero most used moment octets h = tt
-fit_in flows (suc fuel) most used moment octets h = by_event (λ width. fit_in flows fuel most (used + width) (max moment (stamp_of (take width octets))) (drop width octets)) (judged flows most used octets) refl
-  where
-    by_event : ((width : ℕ) → used + width ≤ most → FitIn (most - (used + width)) (read_behind datagram_at (max moment (stamp_of (take width octets))) (events_from flows fuel most (used + width) (drop width octets))))
-        → (r : Result ℕ CaptureEnd) → judged flows most used octets ≡ r → FitIn (most - used) (read_behind datagram_at moment (events_from flows (suc fuel) most used octets))
-    by_event later (Err end) e = rw (events_none flows (suc fuel) most used octets end e) tt
-    by_event later (Ok width) e =
-        let whole = whole_event flows most used octets width e in
-        let same = whole.same in
-        let allowed = whole.allowed in
-        let has = counted flows most used moment octets width e in
-        let short = short_event flows most used octets width e in
-        let head = wide (kind_of octets) in
-        rw (events_whole flows fuel most used octets width e)
-        (omega (arith, has, short), omega (arith, has, same, head, allowed), more_room _ _ _ (omega (arith, has, same, head, allowed)) (later width allowed))
-
-pub fits : (most : ℕ) (octets : List ℕ) → FitIn most (datagrams_of most octets)
-fits most octets = by (has_magic octets)
-  where
-    by : (b : Bool) → FitIn most (read_behind datagram_at 0 (if b then events_from true (length octets) most 0 (drop 8 octets) else []))
-    by true = more_room (most - 0) most _ (omega arith) (fit_in true (length octets) most 0 0 (drop 8 octets) (omega arith))
-    by false = tt
-
 -- the event that a datagram is written as is as wide as the one that it was read of
 same_header : (is_v4 : Bool) (short long : ℕ) → header_width (16 * 0 + low_half_spelling (if is_v4 then V4 short else V6 long)) ≡ 15 + (if is_v4 then 4 else 16)
 same_header true short long = refl
@@ -90,6 +56,37 @@ same_width flows most used moment octets width is =
     let header : header_width (16 * 0 + low_half_spelling (address_of event)) ≡ header_width (kind_of octets) = same_header _ _ _ ∙ ap header_width kind in
     let own = counted flows most used moment octets width is in
     omega (arith, laid.width, header, own, whole.same)
+
+-- more room is enough
+more_room : (some more : ℕ) (ds : List Datagram) → some ≤ more → FitIn some ds → FitIn more ds
+more_room some more [] h fits = tt
+more_room some more (d ∷ ds) h fits =
+    let first = fits.1 in
+    (fits.0, omega (arith, first), more_room (some - length (spelling_of d)) (more - length (spelling_of d)) ds (omega (arith, h)) fits.2)
+
+pub fit_in : (flows : Bool) (fuel most used moment : ℕ) (octets : List ℕ) → used ≤ most → FitIn (most - used) (read_behind datagram_at moment (events_from flows fuel most used octets))
+unfolding width_of
+fit_in flows zero most used moment octets h = tt
+fit_in flows (suc fuel) most used moment octets h = by_event (λ width. fit_in flows fuel most (used + width) (max moment (stamp_of (take width octets))) (drop width octets)) (judged flows most used octets) refl
+  where
+    by_event : ((width : ℕ) → used + width ≤ most → FitIn (most - (used + width)) (read_behind datagram_at (max moment (stamp_of (take width octets))) (events_from flows fuel most (used + width) (drop width octets))))
+        → (r : Result ℕ CaptureEnd) → judged flows most used octets ≡ r → FitIn (most - used) (read_behind datagram_at moment (events_from flows (suc fuel) most used octets))
+    by_event later (Err end) e = rw (events_none flows (suc fuel) most used octets end e) tt
+    by_event later (Ok width) e =
+        let whole = whole_event flows most used octets width e in
+        let allowed = whole.allowed in
+        let wide : length (spelling_of (datagram_at moment (take width octets))) ≡ width = same_width flows most used moment octets width e in
+        let has = counted flows most used moment octets width e in
+        let short = short_event flows most used octets width e in
+        rw (events_whole flows fuel most used octets width e)
+        (omega (arith, has, short), omega (arith, wide, allowed), more_room _ _ _ (omega (arith, wide, allowed)) (later width allowed))
+
+pub fits : (most : ℕ) (octets : List ℕ) → FitIn most (datagrams_of most octets)
+fits most octets = by (has_magic octets)
+  where
+    by : (b : Bool) → FitIn most (read_behind datagram_at 0 (if b then events_from true (length octets) most 0 (drop 8 octets) else []))
+    by true = more_room (most - 0) most _ (omega arith) (fit_in true (length octets) most 0 0 (drop 8 octets) (omega arith))
+    by false = tt
 
 widths : (flows : Bool) (fuel most used moment : ℕ) (octets : List ℕ) → used ≤ most → used + sum_by width_of (read_behind datagram_at moment (events_from flows fuel most used octets)) ≤ most
 widths flows zero most used moment octets h = omega (arith, h)

@@ -158,15 +158,3 @@ header_in_event flows most used octets width whole =
     let taken : length (take width octets) ≡ width = length-take-le width octets whole.here in
     let kind : kind_of (take width octets) ≡ kind_of octets = get_or-take width octets 0 0 (omega arith) in
     (omega arith, rw (taken, kind) (omega (arith, whole.same)))
-
--- one event more
-pub read_next : {E : Type 0} (read : ℕ → List ℕ → E) (flows : Bool) (done all : List E) (moment most used width next : ℕ) (rest : List ℕ) (e : E) → judged flows most used rest ≡ Ok width
-    → e ≡ read moment (take width rest) → next ≡ max moment (stamp_of (take width rest)) → done ++ read_behind read moment (events_from flows (length rest) most used rest) ≡ all
-    → (done ++ e ∷ []) ++ read_behind read next (events_from flows (length (drop width rest)) most (used + width) (drop width rest)) ≡ all
-read_next {E = E} read flows done all moment most used width next rest e is same step before =
-    let later = events_from flows (length (drop width rest)) most (used + width) (drop width rest) in
-    let split : read_behind read moment (events_from flows (length rest) most used rest) ≡ e ∷ read_behind read next later =
-    ap (read_behind read moment) (events_next flows most used rest width is)
-    ∙ ap (λ (x : E). x ∷ read_behind read (max moment (stamp_of (take width rest))) later) (sym same)
-    ∙ ap (λ (n : ℕ). e ∷ read_behind read n later) (sym step) in
-    append_assoc done (e ∷ []) (read_behind read next later) ∙ ap (λ (xs : List E). done ++ xs) (sym split) ∙ before

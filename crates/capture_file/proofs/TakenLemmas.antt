@@ -199,10 +199,7 @@ one_more {E = E} {S = S} read state start before after answers answer so_far cal
         (idle_more read state start before answers answer so_far (ap given idle.answer ∙ end_gives_none end)
         (subst (λ (p : Progress). Leaves (λ _. read) (standing_of before) p answer) (sym at)
         (subst (λ (last : Result (Option E) InputFault). Leaves (λ _. read) (standing_of before) (Over end) last) (sym idle.answer) (again_leaves (λ _. read) (standing_of before) end))))
-    by Failed at idle =
-        subst (λ (reader : CaptureReader S). SoFar read state start reader (answers ++ answer ∷ [])) (sym idle.unchanged)
-        (idle_more read state start before answers answer so_far (ap given idle.answer)
-        (subst (λ (last : Result (Option E) InputFault). Leaves (λ _. read) (standing_of before) (progress_of before) last) (sym idle.answer) tt))
+    by Failed at live = live_more read state start before after answers answer so_far live
 
 -- any more calls
 more : {E S : Type 0} (read : ℕ → List ℕ → E) (state : S → SourceState) (start before after : CaptureReader S) (answers next : List (Result (Option E) InputFault))

@@ -1,5 +1,5 @@
 -- What holds of the events of every capture.
-use Rattle.std.specs.Prelude.{◌≡◌, ◌≤◌, ◌<◌, ◌^◌, ℕ, Bool, List, [], ◌∷◌, ◌++◌, ◌+◌, ◌-◌, flat_map, length, take, drop, Ok}
+use Rattle.std.specs.Prelude.{◌≡◌, ◌≤◌, ◌<◌, ◌^◌, ℕ, Bool, List, [], ◌∷◌, ◌++◌, ◌-◌, flat_map, length, take, drop, Ok}
 use Rattle.acct_types.specs.declared.addr.Addr.{Addr}
 use Rattle.acct_types.specs.declared.addr.Addr.TheVariants.{V4, V6}
 use Rattle.acct_types.specs.declared.datagram.Datagram.{Datagram}
@@ -32,11 +32,10 @@ pub record FitsRouteEvent (e : RouteEvent) : Type 0 where
   pub port : e.port < 2 ^ 16
   pub octets : length (act_octets e.act) ≤ LONGEST
 
--- Each datagram has at most as many octets as an event may carry, and the events of all, each of 19 octets at least before those of its
--- datagram, have at most so many.
+-- Each datagram has at most as many octets as an event may carry, and the events of all, as they are written, have at most so many.
 abbrev pub FitIn : ℕ → List Datagram → Type 0
 FitIn most [] = Unit {0}
-FitIn most (d ∷ ds) = (length d.octets ≤ LONGEST) × (19 + length d.octets ≤ most) × FitIn (most - (19 + length d.octets)) ds
+FitIn most (d ∷ ds) = (length d.octets ≤ LONGEST) × (length (spelling_of d) ≤ most) × FitIn (most - length (spelling_of d)) ds
 
 -- the octets of the events that datagrams are written as
 abbrev pub spellings_of : List Datagram → List ℕ

@@ -69,22 +69,22 @@ end_answer (capture.Torn place) = Err (fault.Torn place)
 end_answer (capture.TooLong place) = Err (fault.TooLong place)
 end_answer capture.TooMany = Err fault.TooMany
 
--- One call of an input over a live reader, with what the source told before and after it: the reader was called, and goes on as the answer says.
+-- One call of an input over a reader that goes on, with what the source told before and after it: the reader was called, and goes on as the answer says.
 pub record IsLiveCall {E S : Type 0} (read : ℕ → List ℕ → E) (state : S → SourceState) (before after : CaptureReader S) (result : Result (Option E) InputFault) : Type 0 where
   pub call : IsCall read (standing_of before) (standing_of after) (state (source_of before)).left (state (source_of after)).left result
   pub progress : progress_of after ≡ progress_after result
 
--- one of an input over a reader that isn't live: nothing changed, and that was answered
+-- one of an input over a reader of a capture that ended: nothing changed, and that was answered
 pub record IsIdleCall {E S : Type 0} (before after : CaptureReader S) (result said : Result (Option E) InputFault) : Type 0 where
   pub unchanged : after ≡ before
   pub answer : result ≡ said
 
--- One call of an input over a reader, by how it goes on: once the capture ended its end is answered again, and want of memory once a
--- read or memory failed.
+-- One call of an input over a reader, by how it goes on: once the capture ended its end is answered again, and where a read or memory
+-- failed it reads on.
 abbrev pub IsCallAt : {E S : Type 0} → Progress → (ℕ → List ℕ → E) → (S → SourceState) → CaptureReader S → CaptureReader S → Result (Option E) InputFault → Type 0
 IsCallAt Live read state before after result = IsLiveCall read state before after result
 IsCallAt (Over end) read state before after result = IsIdleCall before after result (end_answer end)
-IsCallAt Failed read state before after result = IsIdleCall before after result (Err fault.NoMemory)
+IsCallAt Failed read state before after result = IsLiveCall read state before after result
 
 -- one call of an input over a reader
 abbrev pub IsInputCall : {E S : Type 0} → (ℕ → List ℕ → E) → (S → SourceState) → CaptureReader S → CaptureReader S → Result (Option E) InputFault → Type 0

@@ -12,7 +12,7 @@ use crate::CaptureReader;
 use acct_types::{Addr, Datagram, NoMemory, Octets, RouteEvent, Side};
 use outside_io::{Datagrams, Flag, InputFault, IoFault, Sessions, Source};
 
-/// The datagrams of a capture of flows. Once the capture ended it answers that end again, once a read or memory failed NoMemory.
+/// The datagrams of a capture of flows. Once the capture ended it answers that end again; where a read or memory failed it reads on.
 #[derive(Debug, Drop)]
 pub struct CaptureFlows<S> {
     reader: CaptureReader<S>,

@@ -18,7 +18,7 @@ pub fn moments_never_fall()
     ensures routes { (most : ℕ) (octets : List ℕ) → NeverFall (λ (e : RouteEvent). e.moment) 0 (route_events_of most octets) }
 {}
 
-/// A capture's datagrams have at most 65,535 octets each, and with the headers of their events no more than the limit.
+/// A capture's datagrams have at most 65,535 octets each, and their events, as they are written, no more than the limit.
 pub fn datagrams_fit_the_limit()
     ensures { (most : ℕ) (octets : List ℕ) → FitIn most (datagrams_of most octets) }
 {}

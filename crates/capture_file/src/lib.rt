@@ -11,7 +11,7 @@ mod reading;
 mod window;
 mod write;
 
-pub use flows::{CaptureEnd, FlowCapture, split_flows};
+pub use flows::CaptureEnd;
 pub use inputs::{CaptureFlows, CaptureRoutes};
 pub use reader::{CaptureReader, Step};
 pub use write::{write_flow, write_magic, write_route};

@@ -184,7 +184,7 @@ impl<S: Source> CaptureReader<S> {
         source
     }
 
-    /// The next event as an input gives it: once the capture ended, its end again; once a read or memory failed, NoMemory.
+    /// The next event as an input gives it: once the capture ended, its end again; where a read or memory failed it reads on.
     pub(crate) fn hand_out<E: ReadEvent>(&mut self) -> Result<Option<E>, InputFault>
         ensures left { prepend_told (given result) (told_of (E.at (standing_of self.old).flows) (S.state (source_of self.new)).left self.new) ≡ told_of (E.at (standing_of self.old).flows) (S.state (source_of self.old)).left self.old }
         ensures ends { EndsAs (told_of (E.at (standing_of self.old).flows) (S.state (source_of self.old)).left self.old) (ending_of (S.state (source_of self.old)).left self.old) result }
@@ -198,7 +198,7 @@ impl<S: Source> CaptureReader<S> {
         match self.progress {
             Progress::Live => self.next_event::<E>(),
             Progress::Over(end) => end_answer(end),
-            Progress::Failed => Err(InputFault::NoMemory),
+            Progress::Failed => self.next_event::<E>(),
         }
     }
 }

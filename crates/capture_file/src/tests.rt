@@ -2,11 +2,10 @@ ghost use Rattle.std.specs.Prelude.{◌≤◌, length, IfOk};
 ghost use Rattle.acct_types.specs.RouteEvents.{act_octets};
 
 use crate::{
-    CaptureEnd, CaptureFlows, CaptureReader, CaptureRoutes, FlowCapture, Step, split_flows,
-    write_flow, write_magic, write_route,
+    CaptureFlows, CaptureReader, CaptureRoutes, Step, write_flow, write_magic, write_route,
 };
 use acct_types::{Act, Addr, Datagram, List, NoMemory, Octets, RouteEvent, Side};
-use outside_io::{Datagrams, InputFault, MemorySource, Sessions, Source};
+use outside_io::{Datagrams, InputFault, MemorySource, Sessions};
 use std::alloc::Global;
 use std::test::Fail;
 
@@ -30,10 +29,6 @@ fn joined(alloc: Global, parts: &[&[u8]]) -> Result<List<u8>, NoMemory> {
         octets.extend(part)?;
     }
     Ok(octets)
-}
-
-fn read(alloc: Global, parts: &[&[u8]], most: u64) -> Result<FlowCapture, NoMemory> {
-    split_flows(alloc, joined(alloc, parts)?.as_slice(), most)
 }
 
 fn is_datagram(d: &Datagram, moment: u64, exporter: Addr, port: u16, octets: &[u8]) -> bool {
@@ -68,103 +63,91 @@ fn read_flows(
     Ok((datagrams, end))
 }
 
-fn as_fault(end: CaptureEnd) -> Option<InputFault> {
-    match end {
-        CaptureEnd::Ended => None,
-        CaptureEnd::BadMagic => Some(InputFault::BadMagic),
-        CaptureEnd::BadKind { place } => Some(InputFault::BadKind { place }),
-        CaptureEnd::Torn { place } => Some(InputFault::Torn { place }),
-        CaptureEnd::TooLong { place } => Some(InputFault::TooLong { place }),
-        CaptureEnd::TooMany => Some(InputFault::TooMany),
-    }
-}
-
-fn is_same(capture: &FlowCapture, steps: &(List<Datagram>, Option<InputFault>)) -> bool {
-    let whole = capture.datagrams.as_slice();
-    let (datagrams, fault) = steps;
-    let same = whole.iter().zip(datagrams.as_slice()).all(|(a, b)| is_datagram(
-        a,
-        b.moment,
-        b.exporter,
-        b.port,
-        b.octets.as_slice(),
-    ));
-    same && whole.len() == datagrams.len() && *fault == as_fault(capture.end)
-}
-
 #[test]
 fn a_capture_ends_where_its_format_says(rt: HostRuntime) -> Result<(), Fail> {
     let ample = u64::MAX;
-    let cases: [(&[&[u8]], u64, usize, CaptureEnd); 19] = [
-        (&[], ample, 0, CaptureEnd::BadMagic),
-        (&[b"PMACAP0"], ample, 0, CaptureEnd::BadMagic),
-        (&[b"PMACAP02", SMALL], ample, 0, CaptureEnd::BadMagic),
-        (&[MAGIC], 0, 0, CaptureEnd::Ended),
-        (&[MAGIC, SMALL], ample, 1, CaptureEnd::Ended),
-        (&[MAGIC, SMALL, WIDE, SMALL], ample, 3, CaptureEnd::Ended),
+    let cases: [(&[&[u8]], u64, usize, Option<InputFault>); 19] = [
+        (&[], ample, 0, Some(InputFault::BadMagic)),
+        (&[b"PMACAP0"], ample, 0, Some(InputFault::BadMagic)),
+        (&[b"PMACAP02", SMALL], ample, 0, Some(InputFault::BadMagic)),
+        (&[MAGIC], 0, 0, None),
+        (&[MAGIC, SMALL], ample, 1, None),
+        (&[MAGIC, SMALL, WIDE, SMALL], ample, 3, None),
         (
             &[MAGIC, SMALL, b"\x05"],
             ample,
             1,
-            CaptureEnd::BadKind { place: 28 },
+            Some(InputFault::BadKind { place: 28 }),
         ),
         (
             &[MAGIC, b"\x74", SMALL],
             ample,
             0,
-            CaptureEnd::BadKind { place: 8 },
+            Some(InputFault::BadKind { place: 8 }),
         ),
         (
             &[MAGIC, SMALL, &SMALL[..18]],
             ample,
             1,
-            CaptureEnd::Torn { place: 28 },
+            Some(InputFault::Torn { place: 28 }),
         ),
         (
             &[MAGIC, SMALL, &SMALL[..19]],
             ample,
             1,
-            CaptureEnd::Torn { place: 28 },
+            Some(InputFault::Torn { place: 28 }),
         ),
         (
             &[MAGIC, WIDE, &WIDE[..30]],
             ample,
             1,
-            CaptureEnd::Torn { place: 41 },
+            Some(InputFault::Torn { place: 41 }),
         ),
         (
             &[MAGIC, WIDE, &WIDE[..32]],
             ample,
             1,
-            CaptureEnd::Torn { place: 41 },
+            Some(InputFault::Torn { place: 41 }),
         ),
-        (&[MAGIC, LONGEST], ample, 0, CaptureEnd::Torn { place: 8 }),
-        (&[MAGIC, LONGER], 0, 0, CaptureEnd::TooLong { place: 8 }),
+        (
+            &[MAGIC, LONGEST],
+            ample,
+            0,
+            Some(InputFault::Torn { place: 8 }),
+        ),
+        (
+            &[MAGIC, LONGER],
+            0,
+            0,
+            Some(InputFault::TooLong { place: 8 }),
+        ),
         (
             &[MAGIC, SMALL, LONGER],
             ample,
             1,
-            CaptureEnd::TooLong { place: 28 },
+            Some(InputFault::TooLong { place: 28 }),
         ),
-        (&[MAGIC, SMALL, WIDE], 53, 2, CaptureEnd::Ended),
-        (&[MAGIC, SMALL, WIDE], 52, 1, CaptureEnd::TooMany),
-        (&[MAGIC, SMALL, &WIDE[..31]], 52, 1, CaptureEnd::TooMany),
+        (&[MAGIC, SMALL, WIDE], 53, 2, None),
+        (&[MAGIC, SMALL, WIDE], 52, 1, Some(InputFault::TooMany)),
+        (
+            &[MAGIC, SMALL, &WIDE[..31]],
+            52,
+            1,
+            Some(InputFault::TooMany),
+        ),
         (
             &[MAGIC, SMALL, &WIDE[..30]],
             52,
             1,
-            CaptureEnd::Torn { place: 28 },
+            Some(InputFault::Torn { place: 28 }),
         ),
     ];
     for (index, (parts, most, count, end)) in cases.iter().enumerate() {
-        let capture = read(rt.alloc(), parts, *most).map_err(|_| "no memory")?;
-        assert_eq!(rt; capture.datagrams.len(), *count, "case {index}");
-        assert_eq!(rt; capture.end, *end, "case {index}");
-        let octets = joined(rt.alloc(), parts).map_err(|_| "no memory")?;
+        let octets = joined(rt.alloc(), parts)?;
         for each in [1, 7, 1000] {
-            let steps = read_flows(rt.alloc(), &octets, each, *most).map_err(|_| "no memory")?;
+            let (datagrams, fault) = read_flows(rt.alloc(), &octets, each, *most)?;
             assert!(rt;
-                is_same(&capture, &steps),
+                datagrams.len() == *count && fault == *end,
                 "case {index}, {each} octets a read"
             );
         }
@@ -174,8 +157,9 @@ fn a_capture_ends_where_its_format_says(rt: HostRuntime) -> Result<(), Fail> {
 
 #[test]
 fn exporters_of_both_families_and_a_stamp_that_goes_back(rt: HostRuntime) -> Result<(), Fail> {
-    let capture = read(rt.alloc(), &[MAGIC, SMALL, WIDE], 53).map_err(|_| "no memory")?;
-    let [first, second] = capture.datagrams.as_slice() else {
+    let octets = joined(rt.alloc(), &[MAGIC, SMALL, WIDE])?;
+    let (datagrams, _) = read_flows(rt.alloc(), &octets, 1000, 53)?;
+    let [first, second] = datagrams.as_slice() else {
         return Err("not two datagrams".into());
     };
     assert!(rt; is_datagram(first, 1000, Addr::V4(0xc000_0201), 50000, b"\x07"));
@@ -193,8 +177,9 @@ const ONE_EXPORT: &[u8] = b"PMACAP01\x04\0\0\0\0\0\0\x03\xe8\xc0\0\x02\x01\xc3\x
 #[test]
 fn a_capture_of_one_export(rt: HostRuntime) -> Result<(), Fail> {
     assert_eq!(rt; ONE_EXPORT.len(), 99);
-    let capture = split_flows(rt.alloc(), ONE_EXPORT, 91).map_err(|_| "no memory")?;
-    let [datagram] = capture.datagrams.as_slice() else {
+    let octets = List::from_slice(rt.alloc(), ONE_EXPORT)?;
+    let (datagrams, fault) = read_flows(rt.alloc(), &octets, 1000, 91)?;
+    let [datagram] = datagrams.as_slice() else {
         return Err("not one datagram".into());
     };
     assert!(rt;
@@ -206,9 +191,9 @@ fn a_capture_of_one_export(rt: HostRuntime) -> Result<(), Fail> {
             &ONE_EXPORT[27..]
         )
     );
-    assert_eq!(rt; capture.end, CaptureEnd::Ended);
-    let capture = split_flows(rt.alloc(), ONE_EXPORT, 90).map_err(|_| "no memory")?;
-    assert_eq!(rt; capture.end, CaptureEnd::TooMany);
+    assert!(rt; fault.is_none());
+    let (_, fault) = read_flows(rt.alloc(), &octets, 1000, 90)?;
+    assert!(rt; fault == Some(InputFault::TooMany));
     Ok(())
 }
 
@@ -268,34 +253,18 @@ fn a_failed_read_loses_no_octet(rt: HostRuntime) -> Result<(), Fail> {
         let octets = joined(alloc, &[MAGIC, SMALL, WIDE])?;
         let source = MemorySource::new(octets, 7, List::from_slice(alloc, &[failing])?);
         let mut flows = CaptureFlows::new(CaptureReader::new(alloc, source, true, 1000));
-        let mut count = 0u64;
-        let mut fault = None;
-        for _ in 0..3u8 {
-            match flows.next() {
-                Ok(Some(_)) => count = count.saturating_add(1),
-                Ok(None) => break,
-                Err(met) => {
-                    fault = Some(met);
-                    break;
-                }
-            }
+        let mut got = Octets::new(alloc);
+        for _ in 0..4u8 {
+            got.push(match flows.next() {
+                Ok(Some(_)) => b'd',
+                Ok(None) => b'.',
+                Err(InputFault::ReadFault) => b'!',
+                Err(_) => b'?',
+            })?;
         }
-        assert!(rt; fault == Some(InputFault::ReadFault));
-        assert!(rt;
-            count
-                == if failing < 5 {
-                    0
-                } else if failing < 10 {
-                    1
-                } else {
-                    2
-                }
-        );
-        assert!(rt; matches!(flows.next(), Err(InputFault::NoMemory)));
-        let mut source = flows.into_source();
-        assert!(rt; source.left_len() as u64 == 61u64.saturating_sub(7 * (failing - 1)));
-        let mut buf = [0u8; 1];
-        assert!(rt; source.read(&mut buf).is_ok());
+        let wanted: &[u8] = if failing < 5 { b"!dd." } else { b"d!d." };
+        assert!(rt; got.as_slice() == wanted, "read {failing}");
+        assert!(rt; flows.into_source().left_len() == 0);
     }
     Ok(())
 }

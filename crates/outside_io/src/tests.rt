@@ -1,11 +1,12 @@
 use crate::{
-    Begin, Datagrams, FilePlace, Flag, InputFault, IoFault, MemoryFlows, MemoryPlace,
-    MemorySessions, MemorySink, MemorySource, NoRoutes, Place, Sessions, Sink, Source, can_come,
-    read_all, read_name, write_all,
+    Begin, Datagrams, FilePlace, FileSource, Flag, InputFault, IoFault, MemoryFlows, MemoryPlace,
+    MemorySessions, MemorySink, MemorySource, NoRoutes, Place, SayOut, Sessions, Sink, Source,
+    can_come, read_all, read_name, write_all,
 };
 use acct_types::{Act, Addr, Datagram, List, Octets, RouteEvent, Side, Text};
 use std::alloc::Global;
 use std::fs::remove_file;
+use std::io::{Error, ErrorKind, Read, Write};
 use std::test::Fail;
 
 fn same(got: &[u8], wanted: &[u8]) -> bool {
@@ -158,30 +159,121 @@ fn files_are_written_and_read(rt: HostRuntime) -> Result<(), Fail> {
     let alloc = rt.alloc();
     let mut place = FilePlace::new(alloc, &rt);
     let name = Text::from_slice(alloc, b"outside_io_files_are_written_and_read")?;
-    for begin in [Begin::Anew, Begin::Append, Begin::Append] {
-        assert!(rt;
-            same(
-                answer_of(write_name(&mut place, &name, begin, b"some")),
-                b"ok"
-            )
-        );
+    // Longer octets are lost where an output begins anew, and nothing may be written.
+    let rows: [(Begin, &[u8], &[u8]); 5] = [
+        (Begin::Anew, b"much longer", b"much longer"),
+        (Begin::Anew, b"some", b"some"),
+        (Begin::Append, b"thing", b"something"),
+        (Begin::Append, b"", b"something"),
+        (Begin::Anew, b"", b""),
+    ];
+    for (begin, octets, wanted) in rows {
+        let answer = answer_of(write_name(&mut place, &name, begin, octets));
+        assert!(rt; same(answer, b"ok"));
+        let read = read_name(alloc, &mut place, &name, 99).map_err(|_| "it isn't read")?;
+        assert!(rt; same(read.as_slice(), wanted));
     }
-    let read = read_name(alloc, &mut place, &name, 99).map_err(|_| "it isn't read")?;
-    assert!(rt; same(read.as_slice(), b"somesomesome"));
     remove_file(&rt, "outside_io_files_are_written_and_read")?;
-    assert!(rt;
-        same(
-            answer_of(read_name(alloc, &mut place, &name, 99)),
-            b"failed"
-        )
-    );
-    let not_utf8 = Text::from_slice(alloc, b"\xff")?;
-    assert!(rt;
-        same(
-            answer_of(read_name(alloc, &mut place, &not_utf8, 99)),
-            b"failed"
-        )
-    );
+    let not_utf8: &[u8] = b"\xff";
+    for name in [name.as_slice(), not_utf8] {
+        let name = Text::from_slice(alloc, name)?;
+        let answer = answer_of(read_name(alloc, &mut place, &name, 99));
+        assert!(rt; same(answer, b"failed"));
+    }
+    Ok(())
+}
+
+#[test]
+fn a_failed_read_of_a_file_is_not_its_end(rt: HostRuntime) -> Result<(), Fail> {
+    let alloc = rt.alloc();
+    let mut place = FilePlace::new(alloc, &rt);
+    // A folder is opened, and then each read of it fails.
+    let folder = Text::from_slice(alloc, b".")?;
+    let mut source = place.open_in(&folder).map_err(|_| "it isn't opened")?;
+    assert!(rt; same(one_read(alloc, &mut source)?.as_slice(), b"failed"));
+    let answer = answer_of(read_name(alloc, &mut place, &folder, 99));
+    assert!(rt; same(answer, b"failed"));
+    Ok(())
+}
+
+// A reader and a writer of std. Each call moves at most as many octets as its step says, the last step first, or fails
+// where that is 9.
+#[derive(Drop)]
+struct Stepwise {
+    octets: Octets,
+    steps: Octets,
+}
+
+impl Stepwise {
+    fn next_step(&mut self) -> Result<usize, Error> {
+        match self.steps.pop() {
+            Some(9) => Err(Error::from(ErrorKind::Other)),
+            Some(step) => Ok(step as usize),
+            None => Ok(0),
+        }
+    }
+}
+
+impl Write for Stepwise {
+    fn write(&mut self, buf: &[u8]) -> Result<usize, Error> {
+        let count = self.next_step()?.min(buf.len());
+        match self.octets.extend(&buf[..count]) {
+            Ok(()) => Ok(count),
+            Err(_) => Err(Error::from(ErrorKind::OutOfMemory)),
+        }
+    }
+
+    fn flush(&mut self) -> Result<(), Error> {
+        Ok(())
+    }
+}
+
+impl Read for Stepwise {
+    fn read(&mut self, buf: &mut [u8]) -> Result<usize, Error> {
+        let count = self.next_step()?.min(buf.len());
+        buf[..count].fill(b'r');
+        Ok(count)
+    }
+}
+
+#[test]
+fn a_short_write_is_not_whole(rt: HostRuntime) -> Result<(), Fail> {
+    let alloc = rt.alloc();
+    let rows: [(&[u8], &[u8], &[u8]); 5] = [
+        (&[2, 2, 2], b"ok", b"abcde"),
+        (&[7, 1], b"ok", b"abcde"),
+        (&[9, 2], b"failed", b"ab"),
+        (&[0, 2, 2], b"failed", b"abcd"),
+        (&[9], b"failed", b""),
+    ];
+    for (steps, answer, held) in rows {
+        let mut writer = Stepwise {
+            octets: Octets::new(alloc),
+            steps: Octets::from_slice(alloc, steps)?,
+        };
+        let mut out = SayOut::new(&mut writer);
+        assert!(rt; same(answer_of(write_all(&mut out, b"abcde")), answer));
+        assert!(rt; same(writer.octets.as_slice(), held));
+    }
+    Ok(())
+}
+
+#[test]
+fn a_short_read_is_not_the_end(rt: HostRuntime) -> Result<(), Fail> {
+    let alloc = rt.alloc();
+    let rows: [(&[u8], &[u8], bool); 3] = [
+        (&[2, 2], b"rrrr", false),
+        (&[9, 1, 2], b"rrr", true),
+        (&[9], b"", true),
+    ];
+    for (steps, octets, failed) in rows {
+        let mut reader = FileSource::new(Stepwise {
+            octets: Octets::new(alloc),
+            steps: Octets::from_slice(alloc, steps)?,
+        });
+        let read = read_all(alloc, &mut reader, 99)?;
+        assert!(rt; same(read.octets.as_slice(), octets) && read.failed == failed);
+    }
     Ok(())
 }
 
@@ -260,7 +352,7 @@ fn acts<S: Sessions>(alloc: Global, input: &mut S, calls: u8) -> Result<Octets, 
     let mut got = Octets::new(alloc);
     for _ in 0..calls {
         match input.next() {
-            Ok(Some(event)) => match event.act {
+            Ok(Some(event)) => match &event.act {
                 Act::Up => got.push(b'u')?,
                 Act::Bytes(octets) => got.extend(octets.as_slice())?,
                 Act::Down => got.push(b'd')?,
