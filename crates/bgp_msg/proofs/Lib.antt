@@ -1,3 +1,4 @@
+pub mod AddPathLemmas
 pub mod AttributeLemmas
 pub mod FormLemmas
 pub mod FrameLemmas

@@ -1,6 +1,8 @@
+pub mod AddPaths
 pub mod Attributes
 pub mod Families
 pub mod Frames
+pub mod Items
 pub mod Laws
 pub mod Messages
 pub mod Opens

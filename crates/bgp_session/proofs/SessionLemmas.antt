@@ -60,7 +60,7 @@ goes_on session earlier piece live h =
     let on = continues session.local start a piece (ap (λ (o : Outcome). o.closed) is ∙ none) in
     let begun : session.begun ≡ rest_of a = h.begun ∙ ap (λ (closed : Option Why). kept closed (rest_of a)) none in
     let progress : (outcome session.local start a).progress ≡ session.progress =
-    ap (λ (o : Outcome). o.progress) is ∙ (λ i. record { stage = sym h.stage i; wide = sym h.wide i; hold = sym h.hold i }) in
+    ap (λ (o : Outcome). o.progress) is ∙ (λ i. record { stage = sym h.stage i; agreed = sym h.agreed i; hold = sym h.hold i }) in
     record {
       closed = none;
       all = sym (life session.local (a ++ piece)) ∙ on.all
@@ -127,7 +127,7 @@ has_heard session earlier piece progress some begun live h is spoken left =
     let all = ap (λ (o : Outcome). o.progress) on.all in
     record {
       stage = ap (λ (p : Progress). p.stage) (is ∙ sym all);
-      wide = ap (λ (p : Progress). p.wide) (is ∙ sym all);
+      agreed = ap (λ (p : Progress). p.agreed) (is ∙ sym all);
       hold = ap (λ (p : Progress). p.hold) (is ∙ sym all);
       last = last_by session earlier piece some live h spoken;
       begun = left ∙ ap (λ (closed : Option Why). kept closed (rest_of (session.begun ++ piece.octets))) (sym (ap (λ (o : Outcome). o.closed) on.all))
@@ -139,7 +139,7 @@ pub nothing_heard : (session : SessionState) → session.progress ≡ start → 
 unfolding closed_by framed heard hold_of messages rest_of spoken_by stage_of
 nothing_heard session progress last begun = record {
   stage = ap (λ (p : Progress). p.stage) progress;
-  wide = ap (λ (p : Progress). p.wide) progress;
+  agreed = ap (λ (p : Progress). p.agreed) progress;
   hold = ap (λ (p : Progress). p.hold) progress;
   last = last;
   begun = begun;
@@ -166,12 +166,12 @@ steps_live : (local : Local) (progress : Progress) (reason : Option Why) (all : 
 steps_live local progress None [] h = rw h refl
 steps_live local progress (Some reason) [] h = refl
 steps_live local progress reason (message ∷ others) h =
-    by (steps_live local (behind local progress message) reason others (next_live progress.stage)) (end_at progress.stage progress.wide message) refl
+    by (steps_live local (behind local progress message) reason others (next_live progress.stage)) (end_at progress.stage progress.agreed message) refl
   where
     goes : Outcome → Type 0
     goes o = not (is_over o.progress.stage) ≡ is_none o.closed
 
-    by : goes (steps local (behind local progress message) reason others) → (found : Option Why) → end_at progress.stage progress.wide message ≡ found
+    by : goes (steps local (behind local progress message) reason others) → (found : Option Why) → end_at progress.stage progress.agreed message ≡ found
         → goes (steps local progress reason (message ∷ others))
     by rest (Some found) e =
         let is = ap (λ (one : Outcome). first_then one (steps local one.progress reason others)) (step_is local progress message (Some found) e) in

@@ -1,7 +1,7 @@
 -- What a session keeps of the pieces that it took.
 use Rattle.std.specs.Prelude.{ℕ, ◌≡◌, Bool, true, false, List, not}
 use Rattle.acct_types.specs.declared.addr.Addr.{Addr}
-use Rattle.bgp_session.specs.Lives.{closed_by, heard, hold_of, is_wide, stage_of}
+use Rattle.bgp_session.specs.Lives.{closed_by, heard, hold_of, agreed_in, stage_of}
 use Rattle.bgp_session.specs.Moments.{Piece, joined, last_heard}
 use Rattle.bgp_session.specs.Steps.{kept}
 use Rattle.bgp_session.specs.Stream.{rest_of}
@@ -31,7 +31,7 @@ is_live session = not (is_over session.progress.stage)
 -- message begun are by their octets joined, however they were cut into pieces.
 pub record HasHeard (session : SessionState) (pieces : List Piece) : Type 0 where
   pub stage : session.progress.stage ≡ stage_of (joined pieces)
-  pub wide : session.progress.wide ≡ is_wide (heard (joined pieces))
+  pub agreed : session.progress.agreed ≡ agreed_in (heard (joined pieces))
   pub hold : session.progress.hold ≡ hold_of session.local (joined pieces)
   pub last : session.last ≡ last_heard pieces
   pub begun : session.begun ≡ kept (closed_by (joined pieces)) (rest_of (joined pieces))

@@ -5,7 +5,7 @@ use Rattle.bgp_msg.specs.Frames.{kind_of}
 use Rattle.bgp_msg.specs.Opens.{hello_of}
 use Rattle.bgp_msg.specs.Written.{keepalive_spelling, open_spelling}
 use Rattle.bgp_msg.specs.declared.message.Hello.{Hello}
-use Rattle.bgp_session.specs.Lives.{end_at, farewell, next, reply_to, update_in}
+use Rattle.bgp_session.specs.Lives.{agreed_with, end_at, farewell, next, reply_to, update_in}
 use Rattle.bgp_session.specs.Stream.{header_end, messages, rest_of}
 use Rattle.bgp_session.specs.declared.hearing.Hearing.{Hearing}
 use Rattle.bgp_session.specs.declared.progress.Local.{Local}
@@ -30,13 +30,13 @@ abbrev pub greeting : Local → Hello → List ℕ
 greeting local hello = open_spelling hello.asn local.hold local.id ++ keepalive_spelling
 
 abbrev pub greeted : Local → Progress → Hello → Progress
-greeted local progress hello = record { stage = next progress.stage; wide = hello.four_octets; hold = min local.hold hello.hold }
+greeted local progress hello = record { stage = next progress.stage; agreed = agreed_with hello; hold = min local.hold hello.hold }
 
 -- a message that is heard
 abbrev pub behind : Local → Progress → List ℕ → Progress
 behind local progress message = record {
   stage = next progress.stage;
-  wide = if kind_of message == 1 then (hello_of message).four_octets else progress.wide;
+  agreed = if kind_of message == 1 then agreed_with (hello_of message) else progress.agreed;
   hold = if kind_of message == 1 then min local.hold (hello_of message).hold else progress.hold;
 }
 
@@ -47,12 +47,12 @@ ending progress (Some reason) = record { progress = shut progress; replies = far
 
 abbrev pub step_by : Local → Progress → List ℕ → Option Why → Outcome
 step_by local progress message None =
-    record { progress = behind local progress message; replies = reply_to local message; updates = update_in progress.wide message; spoken = length message; closed = None }
+    record { progress = behind local progress message; replies = reply_to local message; updates = update_in progress.agreed message; spoken = length message; closed = None }
 step_by local progress message (Some reason) = ending progress (Some reason)
 
 -- one message
 unfoldable pub step : Local → Progress → List ℕ → Outcome
-step local progress message = step_by local progress message (end_at progress.stage progress.wide message)
+step local progress message = step_by local progress message (end_at progress.stage progress.agreed message)
 
 -- one outcome behind another, where the first doesn't end the life
 abbrev pub onward : Outcome → Outcome → Outcome

@@ -2,7 +2,7 @@
 
 ghost use Rattle.std.specs.Prelude.{◌≡◌, ◌++◌, [], true, Ok, Some, None, IfOk, OnOk, length};
 ghost use Rattle.bgp_msg.specs.Frames.{framed};
-ghost use Rattle.bgp_session.specs.Lives.{agreed, next};
+ghost use Rattle.bgp_session.specs.Lives.{agreed_with, next};
 ghost use Rattle.bgp_session.specs.Steps.{Adds, ending, greeted, greeting, kept, outcome, step};
 ghost use Rattle.bgp_session.specs.Stream.{rest_of};
 
@@ -11,7 +11,10 @@ use crate::begun::complete;
 use crate::hearing::Hearing;
 use crate::progress::{Local, Progress, Stage};
 use acct_types::{NoMemory, Octets};
-use bgp_msg::{Agreed, BgpFault, BgpMessage, BgpRefusal, Hello, frame, read_message, write_keepalive, write_notification, write_open};
+use bgp_msg::{
+    Agreed, BgpFault, BgpMessage, BgpRefusal, Hello, frame, read_message, write_keepalive,
+    write_notification, write_open,
+};
 use std::alloc::Global;
 
 const NOTIFICATION: u8 = 3;
@@ -42,13 +45,13 @@ pub(crate) fn shut(
     })
 }
 
-fn agreed(wide: bool) -> Agreed
-    ensures { result ≡ agreed wide }
+fn agreed_with(hello: &Hello) -> Agreed
+    ensures { result ≡ agreed_with hello.now }
 {
     Agreed {
-        four_octets: wide,
-        path_ids_v4: false,
-        path_ids_v6: false,
+        four_octets: hello.four_octets,
+        path_ids_v4: hello.path_ids_v4,
+        path_ids_v6: hello.path_ids_v6,
     }
 }
 
@@ -69,7 +72,7 @@ fn greet(
     hearing.some = true;
     Ok(Progress {
         stage: progress.stage.next(),
-        wide: hello.four_octets,
+        agreed: agreed_with(hello),
         hold: local.hold.min(hello.hold),
     })
 }
@@ -104,7 +107,7 @@ fn hear(
     if kind != NOTIFICATION && !progress.stage.fits(kind) {
         return shut(progress, Why::Fault(NOT_AWAITED), hearing);
     }
-    match read_message(alloc, message, &agreed(progress.wide)) {
+    match read_message(alloc, message, &progress.agreed) {
         Err(BgpRefusal::NoMemory) => Err(NoMemory),
         Err(BgpRefusal::Fault(fault)) => shut(progress, Why::Fault(fault), hearing),
         Ok(BgpMessage::Notification { code, subcode }) => {

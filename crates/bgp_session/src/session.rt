@@ -7,7 +7,7 @@ ghost use Rattle.bgp_session.specs.Sessions.{HasHeard, is_live};
 use crate::Turn;
 use crate::hearing::Hearing;
 use crate::message::hear_piece;
-use crate::progress::{Local, Progress, Stage};
+use crate::progress::{Local, NOTHING_AGREED, Progress, Stage};
 use acct_types::{Addr, List, NoMemory, Octets};
 use std::alloc::Global;
 use std::marker::Model;
@@ -76,7 +76,7 @@ impl Session {
             moment,
             progress: Progress {
                 stage: Stage::AwaitsOpen,
-                wide: false,
+                agreed: NOTHING_AGREED,
                 hold: 0,
             },
             last: 0,
