@@ -9,8 +9,8 @@ use Rattle.bgp_msg.specs.declared.message.Agreed.{Agreed}
 use Rattle.bgp_msg.specs.declared.message.BgpFault.{BgpFault}
 use Rattle.bgp_session.specs.Laws.{AreEstablished, AreInOrder, ComeTogether, Grows, IsOver, StandAlike}
 use Rattle.bgp_session.specs.Lives.{closed_by, end_at, fits, heard, heard_from, hold_of, agreed_in, stage_of}
-use Rattle.bgp_session.specs.Moments.{Piece, joined, moment_of, spoken_by}
-use Rattle.bgp_session.specs.Sessions.{HasHeard, SessionState}
+use Rattle.bgp_session.specs.Moments.{Piece, is_expired, joined, moment_of, spoken_by}
+use Rattle.bgp_session.specs.Sessions.{Keeps, SessionState, has_expired}
 use Rattle.bgp_session.specs.Steps.{Outcome, kept, onward, outcome, step}
 use Rattle.bgp_session.specs.Stream.{messages, rest_of}
 use Rattle.bgp_session.specs.declared.progress.Local.{Local}
@@ -128,7 +128,8 @@ is_over local octets more reason over =
 
 -- ---- pieces
 
-pub alike : (one other : SessionState) (pieces others : List Piece) → HasHeard one pieces → HasHeard other others → one.local ≡ other.local → joined pieces ≡ joined others → StandAlike one other
+pub alike : (one other : SessionState) (pieces others : List Piece) → Keeps one pieces → Keeps other others → one.local ≡ other.local → joined pieces ≡ joined others → StandAlike one other
+unfolding StandAlike
 alike one other pieces others h k local same =
     let stage = h.stage ∙ ap stage_of same ∙ sym k.stage in
     let agreed = h.agreed ∙ ap (λ (octets : List ℕ). agreed_in (heard octets)) same ∙ sym k.agreed in
@@ -138,6 +139,23 @@ alike one other pieces others h k local same =
       begun = h.begun ∙ ap (λ (octets : List ℕ). kept (closed_by octets) (rest_of octets)) same ∙ sym k.begun;
     }
 
-pub same_last : (one other : SessionState) (pieces others : List Piece) → HasHeard one pieces → HasHeard other others → joined pieces ≡ joined others → ComeTogether pieces others → one.last ≡ other.last
+same_last : (one other : SessionState) (pieces others : List Piece) → Keeps one pieces → Keeps other others → joined pieces ≡ joined others → ComeTogether pieces others → one.last ≡ other.last
 same_last one other pieces others h k same together =
     h.last ∙ together (spoken_by (joined pieces)) ∙ ap (λ (octets : List ℕ). moment_of (spoken_by octets) others) same ∙ sym k.last
+
+pub expire : (one other : SessionState) (pieces others : List Piece) → Keeps one pieces → Keeps other others → one.local ≡ other.local → joined pieces ≡ joined others → ComeTogether pieces others
+    → (moment : ℕ) → has_expired one moment ≡ has_expired other moment
+unfolding has_expired StandAlike
+expire one other pieces others h k local same together moment =
+    let both = alike one other pieces others h k local same in
+    ap (λ (p : Progress). is_expired p.hold one.last moment) both.progress ∙ ap (λ (last : ℕ). is_expired other.progress.hold last moment) (same_last one other pieces others h k same together)
+
+-- what is kept is by the octets and their moments alone
+pub recut : (session : SessionState) (pieces others : List Piece) → Keeps session pieces → joined pieces ≡ joined others → ComeTogether pieces others → Keeps session others
+recut session pieces others h same together = record {
+  stage = h.stage ∙ ap stage_of same;
+  agreed = h.agreed ∙ ap (λ (octets : List ℕ). agreed_in (heard octets)) same;
+  hold = h.hold ∙ ap (hold_of session.local) same;
+  last = h.last ∙ together (spoken_by (joined pieces)) ∙ ap (λ (octets : List ℕ). moment_of (spoken_by octets) others) same;
+  begun = h.begun ∙ ap (λ (octets : List ℕ). kept (closed_by octets) (rest_of octets)) same;
+}

@@ -6,7 +6,7 @@ use Rattle.std.specs.Prelude.{Bool, Option, Some, None, Ok, is_none, is_some, no
 use Rattle.bgp_msg.specs.Frames.{framed}
 use Rattle.bgp_session.specs.Lives.{closed_by, end_at, heard, hold_of, next, stage_behind, stage_of}
 use Rattle.bgp_session.specs.Moments.{Piece, expired_at, is_expired, joined, last_heard, moment_of, spoken_by}
-use Rattle.bgp_session.specs.Sessions.{HasHeard, SessionState, is_live, is_over}
+use Rattle.bgp_session.specs.Sessions.{Keeps, SessionState, has_expired, is_live, is_over}
 use Rattle.bgp_session.specs.Steps.{Outcome, behind, kept, onward, outcome, steps}
 use Rattle.bgp_session.specs.Stream.{header_end, messages, rest_of}
 use Rattle.bgp_session.specs.declared.progress.Local.{Local}
@@ -33,10 +33,12 @@ stage_live octets = by (closed_by octets)
     by None = rw (not_over (heard octets)) refl
     by (Some reason) = refl
 
-pub live_by : (session : SessionState) (pieces : List Piece) → HasHeard session pieces → is_live session ≡ is_none (closed_by (joined pieces))
+pub live_by : (session : SessionState) (pieces : List Piece) → Keeps session pieces → is_live session ≡ is_none (closed_by (joined pieces))
+unfolding is_live
 live_by session pieces h = ap (λ (stage : Stage). not (is_over stage)) h.stage ∙ stage_live (joined pieces)
 
-pub expired_by : (session : SessionState) (pieces : List Piece) (moment : ℕ) → HasHeard session pieces → is_expired session.progress.hold session.last moment ≡ expired_at session.local pieces moment
+pub expired_by : (session : SessionState) (pieces : List Piece) (moment : ℕ) → Keeps session pieces → has_expired session moment ≡ expired_at session.local pieces moment
+unfolding has_expired
 expired_by session pieces moment h =
     ap (λ (hold : ℕ). is_expired hold session.last moment) h.hold ∙ ap (λ (last : ℕ). is_expired (hold_of session.local (joined pieces)) last moment) h.last
 
@@ -52,7 +54,7 @@ pub record GoesOn (session : SessionState) (earlier : List Piece) (piece : List 
   pub partial : framed session.begun ≡ Ok None
   pub spoken : spoken_by (joined earlier) + length session.begun ≡ length (joined earlier)
 
-pub goes_on : (session : SessionState) (earlier : List Piece) (piece : List ℕ) → is_live session ≡ true → HasHeard session earlier → GoesOn session earlier piece
+pub goes_on : (session : SessionState) (earlier : List Piece) (piece : List ℕ) → is_live session ≡ true → Keeps session earlier → GoesOn session earlier piece
 goes_on session earlier piece live h =
     let a = joined earlier in
     let none : closed_by a ≡ None = none_from (closed_by a) (sym (live_by session earlier h) ∙ live) in
@@ -85,7 +87,7 @@ some_spoken count h e = clash (not (count == 0)) h (ap (λ (n : ℕ). not (n == 
     clash : (test : Bool) → test ≡ true → test ≡ false → ⊥
     clash test h k = cc
 
-pub last_by : (session : SessionState) (earlier : List Piece) (piece : Piece) (some : Bool) → is_live session ≡ true → HasHeard session earlier
+pub last_by : (session : SessionState) (earlier : List Piece) (piece : Piece) (some : Bool) → is_live session ≡ true → Keeps session earlier
     → some ≡ not ((outcome session.local session.progress (session.begun ++ piece.octets)).spoken == 0) → (if some then piece.moment else session.last) ≡ last_heard (piece ∷ earlier)
 last_by session earlier piece some live h is = by some is
   where
@@ -118,10 +120,10 @@ last_by session earlier piece some live h is = by some is
 
 -- ---- what is heard of one more piece
 
-pub has_heard : (session : SessionState) (earlier : List Piece) (piece : Piece) (progress : Progress) (some : Bool) (begun : List ℕ) → is_live session ≡ true → HasHeard session earlier
+pub has_heard : (session : SessionState) (earlier : List Piece) (piece : Piece) (progress : Progress) (some : Bool) (begun : List ℕ) → is_live session ≡ true → Keeps session earlier
     → let given = outcome session.local session.progress (session.begun ++ piece.octets) in
     progress ≡ given.progress → some ≡ not (given.spoken == 0) → begun ≡ kept given.closed (rest_of (session.begun ++ piece.octets))
-    → HasHeard (record { peer = session.peer; local = session.local; moment = piece.moment; progress = progress; last = if some then piece.moment else session.last; begun = begun }) (piece ∷ earlier)
+    → Keeps (record { peer = session.peer; local = session.local; moment = piece.moment; progress = progress; last = if some then piece.moment else session.last; begun = begun }) (piece ∷ earlier)
 has_heard session earlier piece progress some begun live h is spoken left =
     let on = goes_on session earlier piece.octets live h in
     let all = ap (λ (o : Outcome). o.progress) on.all in
@@ -135,7 +137,7 @@ has_heard session earlier piece progress some begun live h is spoken left =
     }
 
 -- nothing was heard yet
-pub nothing_heard : (session : SessionState) → session.progress ≡ start → session.last ≡ 0 → session.begun ≡ [] → HasHeard session []
+pub nothing_heard : (session : SessionState) → session.progress ≡ start → session.last ≡ 0 → session.begun ≡ [] → Keeps session []
 unfolding closed_by framed heard hold_of messages rest_of spoken_by stage_of
 nothing_heard session progress last begun = record {
   stage = ap (λ (p : Progress). p.stage) progress;

@@ -15,6 +15,7 @@ mod tests;
 mod turn;
 mod why;
 
+pub use progress::Local;
 pub use session::Session;
 pub use turn::Turn;
 pub use why::Why;

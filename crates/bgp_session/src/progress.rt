@@ -17,12 +17,12 @@ pub(crate) enum Stage {
 }
 
 /// What this side says of itself in its OPEN.
-#[derive(Clone, Copy, Debug)]
-pub(crate) struct Local {
+#[derive(Clone, Copy, Debug, PartialEq, Eq)]
+pub struct Local {
     /// Its BGP identifier.
-    pub(crate) id: u32,
+    pub id: u32,
     /// Its hold time in seconds.
-    pub(crate) hold: u16,
+    pub hold: u16,
 }
 
 /// How far the two sides have come, and what they agreed on.

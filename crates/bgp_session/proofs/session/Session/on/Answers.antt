@@ -20,6 +20,7 @@ invariant_of-self-in-Ok c =
     rw c.in-Ok.ensures.kept (partial, (is_partial _ partial).short)
 
 pub returns-in-Ok-clause-hears : goal.returns-in-Ok-clause-hears
+unfolding HasHeard
 returns-in-Ok-clause-hears c = λ earlier h.
     let given = outcome c.self.inside.local c.self.inside.progress (c.self.inside.begun ++ c.args.piece.now) in
     let live = subst (λ (s : SessionState). is_live s ≡ true) (sym c.self.view_is) c.requires.live in
@@ -29,6 +30,7 @@ returns-in-Ok-clause-hears c = λ earlier h.
     rw c.last_moment-self-inside.ensures (has_heard _ earlier piece c.in-Ok.progress c.hear_piece.new.hearing.some c.hear_piece.new.begun live heard c.in-Ok.ensures.progress some c.in-Ok.ensures.kept)
 
 pub returns-in-Ok-clause-replies : goal.returns-in-Ok-clause-replies
+unfolding HasHeard
 returns-in-Ok-clause-replies c = λ earlier h.
     let given = outcome c.self.inside.local c.self.inside.progress (c.self.inside.begun ++ c.args.piece.now) in
     let live = subst (λ (s : SessionState). is_live s ≡ true) (sym c.self.view_is) c.requires.live in
@@ -39,6 +41,7 @@ returns-in-Ok-clause-replies c = λ earlier h.
     (ap (λ (replies : List ℕ). replies_to c.self.inside.local (joined earlier) ++ replies) same ∙ sym (ap (λ (o : Outcome). o.replies) (goes_on _ earlier c.args.piece.now live heard).all))
 
 pub returns-in-Ok-clause-updates : goal.returns-in-Ok-clause-updates
+unfolding HasHeard
 returns-in-Ok-clause-updates c = λ earlier h.
     let given = outcome c.self.inside.local c.self.inside.progress (c.self.inside.begun ++ c.args.piece.now) in
     let live = subst (λ (s : SessionState). is_live s ≡ true) (sym c.self.view_is) c.requires.live in
@@ -50,12 +53,14 @@ returns-in-Ok-clause-updates c = λ earlier h.
     ap (λ (updates : List Said). updates_in (joined earlier) ++ updates) same ∙ sym (ap (λ (o : Outcome). o.updates) all.all)
 
 pub returns-in-Ok-clause-closed : goal.returns-in-Ok-clause-closed
+unfolding HasHeard
 returns-in-Ok-clause-closed c = λ earlier h.
     let live = subst (λ (s : SessionState). is_live s ≡ true) (sym c.self.view_is) c.requires.live in
     let heard = subst (λ (s : SessionState). HasHeard s earlier) (sym c.self.view_is) h in
     c.into_turn.ensures.closed ∙ c.in-Ok.ensures.adds.closed ∙ sym (ap (λ (o : Outcome). o.closed) (goes_on _ earlier c.args.piece.now live heard).all)
 
 pub returns-in-Ok-clause-ends : goal.returns-in-Ok-clause-ends
+unfolding is_live
 returns-in-Ok-clause-ends c =
     let live = subst (λ (s : SessionState). is_live s ≡ true) (sym c.self.view_is) c.requires.live in
     ap (λ (progress : Progress). not (is_over progress.stage)) c.in-Ok.ensures.progress ∙ outcome_live c.self.inside.local c.self.inside.progress (c.self.inside.begun ++ c.args.piece.now) live
