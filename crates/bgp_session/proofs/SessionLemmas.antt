@@ -14,6 +14,7 @@ use Rattle.bgp_session.specs.declared.progress.Progress.{Progress}
 use Rattle.bgp_session.specs.declared.progress.Stage.{Stage}
 use Rattle.bgp_session.specs.declared.progress.Stage.TheVariants.{AwaitsOpen, AwaitsKeepalive, Established, Closed}
 use Rattle.bgp_session.specs.declared.why.Why.{Why}
+use Rattle.framed_pieces.specs.Stream.{messages as framed_messages, rest_of as framed_rest}
 use Rattle.bgp_session.proofs.JoinLemmas.{continues, longer}
 use Rattle.bgp_session.proofs.FrameLemmas.{framed_short}
 use Rattle.bgp_session.proofs.LifeLemmas.{life, life_of, start, step_is}
@@ -138,7 +139,7 @@ has_heard session earlier piece progress some begun live h is spoken left =
 
 -- nothing was heard yet
 pub nothing_heard : (session : SessionState) → session.progress ≡ start → session.last ≡ 0 → session.begun ≡ [] → Keeps session []
-unfolding closed_by framed heard hold_of messages rest_of spoken_by stage_of
+unfolding closed_by framed heard hold_of framed_messages framed_rest spoken_by stage_of
 nothing_heard session progress last begun = record {
   stage = ap (λ (p : Progress). p.stage) progress;
   agreed = ap (λ (p : Progress). p.agreed) progress;

@@ -1,9 +1,10 @@
 -- One message after another: what each gives, as far as the two sides have come.
-use Rattle.std.specs.Prelude.{ℕ, ◌≡◌, ◌+◌, ◌==◌, ◌||◌, List, [], ◌∷◌, ◌++◌, length, map, min, Option, Some, None, is_some, if◌then◌else◌, not}
+use Rattle.std.specs.Prelude.{ℕ, Bool, ◌≡◌, ◌+◌, ◌==◌, ◌||◌, List, [], ◌∷◌, ◌++◌, length, map, min, Option, Some, None, is_some, if◌then◌else◌, not}
 use Rattle.acct_types.specs.Updates.{Said, update_view}
 use Rattle.bgp_msg.specs.Frames.{kind_of}
 use Rattle.bgp_msg.specs.Opens.{hello_of}
 use Rattle.bgp_msg.specs.Written.{keepalive_spelling, open_spelling}
+use Rattle.bgp_msg.specs.declared.message.BgpFault.{BgpFault}
 use Rattle.bgp_msg.specs.declared.message.Hello.{Hello}
 use Rattle.bgp_session.specs.Lives.{agreed_with, end_at, farewell, next, reply_to, update_in}
 use Rattle.bgp_session.specs.Stream.{header_end, messages, rest_of}
@@ -12,6 +13,8 @@ use Rattle.bgp_session.specs.declared.progress.Local.{Local}
 use Rattle.bgp_session.specs.declared.progress.Progress.{Progress}
 use Rattle.bgp_session.specs.declared.progress.Stage.TheVariants.{Closed}
 use Rattle.bgp_session.specs.declared.why.Why.{Why}
+use Rattle.bgp_session.specs.declared.why.Why.TheVariants.{Fault}
+use Rattle.framed_pieces.specs.Listening.{Listening}
 
 -- what messages give: how far the sides have come then, what is answered, what is learned, how many octets the messages that were heard have, and
 -- why the life is over
@@ -80,8 +83,47 @@ abbrev pub kept : Option Why → List ℕ → List ℕ
 kept None rest = rest
 kept (Some reason) rest = []
 
--- an outcome was added to what was gathered
+-- ---- what is gathered of messages, one after another
+
+pub record Gathered : Type 0 where
+  pub local : Local
+  pub progress : Progress
+  pub replies : List ℕ
+  pub updates : List Said
+  pub some : Bool
+  pub closed : Option Why
+
+abbrev pub gathered : Hearing → Gathered
+gathered hearing = record {
+  local = hearing.local;
+  progress = hearing.progress;
+  replies = hearing.replies;
+  updates = map update_view hearing.updates;
+  some = hearing.some;
+  closed = hearing.closed;
+}
+
+-- an outcome is added
+abbrev pub added : Gathered → Outcome → Gathered
+added before given = record {
+  local = before.local;
+  progress = given.progress;
+  replies = before.replies ++ given.replies;
+  updates = before.updates ++ given.updates;
+  some = before.some || not (given.spoken == 0);
+  closed = given.closed;
+}
+
+abbrev pub listening : Listening Gathered BgpFault
+listening = record {
+  hears = λ before message. added before (step before.local before.progress message);
+  refuses = λ before fault. added before (ending before.progress (Some (Fault fault)));
+  is_over = λ before. is_some before.closed;
+}
+
+-- an outcome was added to what was gathered, but for the progress
 pub record Adds (old new : Hearing) (given : Outcome) : Type 0 where
+  pub local : new.local ≡ old.local
   pub replies : new.replies ≡ old.replies ++ given.replies
   pub updates : map update_view new.updates ≡ map update_view old.updates ++ given.updates
   pub some : new.some ≡ (old.some || not (given.spoken == 0))

@@ -5,10 +5,11 @@ ghost use Rattle.bgp_session.specs.Moments.{Piece, expired_at, is_expired, joine
 ghost use Rattle.bgp_session.specs.Sessions.{HasHeard, has_expired, is_live};
 
 use crate::Turn;
+use crate::framing::Headers;
 use crate::hearing::Hearing;
-use crate::message::hear_piece;
 use crate::progress::{Local, NOTHING_AGREED, Progress, Stage};
 use acct_types::{Addr, List, NoMemory, Octets};
+use framed_pieces::take_piece;
 use std::alloc::Global;
 use std::marker::Model;
 
@@ -133,21 +134,14 @@ impl Session {
         let start = self.progress;
         self.moment = moment;
         self.progress.stage = Stage::Closed;
-        let mut hearing = Hearing::new(self.alloc);
-        match hear_piece(
-            self.alloc,
-            self.local,
-            start,
-            &mut self.begun,
-            piece,
-            &mut hearing,
-        ) {
+        let mut hearing = Hearing::new(self.alloc, self.local, start);
+        match take_piece::<Headers, Hearing>(&mut hearing, &mut self.begun, piece) {
             Err(_) => {
                 self.begun.truncate(0);
                 Err(NoMemory)
             }
-            Ok(progress) => {
-                self.progress = progress;
+            Ok(()) => {
+                self.progress = hearing.progress;
                 self.last = last_moment(hearing.some, moment, self.last);
                 Ok(hearing.into_turn())
             }

@@ -1,5 +1,5 @@
-use Rattle.std.proofs.Common.{◌≡◌, ◌∙◌, ◌++◌, List, ℕ, sym, ap}
-use Rattle.std.specs.Prelude.{Option, Result, Ok, Some}
+use Rattle.std.proofs.Common.{◌∙◌, ◌++◌, List, ℕ, sym, ap}
+use Rattle.std.specs.Prelude.{Option, Result, Ok}
 use Rattle.framed_pieces.specs.Stream.{rest_of}
 use Rattle.framed_pieces.proofs.StreamLemmas.{rest_next, rest_none}
 use Rattle.framed_pieces.proofs.TakenLemmas.{kept_live, kept_over, taken_bad, taken_last, taken_next, taken_none}

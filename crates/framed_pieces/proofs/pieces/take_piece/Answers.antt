@@ -1,5 +1,5 @@
 use Rattle.std.proofs.Common.{◌≡◌, ◌∙◌, ◌++◌, List, ℕ, sym, ap}
-use Rattle.std.specs.Prelude.{Option, Result, Ok, Some}
+use Rattle.std.specs.Prelude.{Option, Result, Ok}
 use Rattle.std.proofs.lemmas.List.{append-nil}
 use Rattle.framed_pieces.specs.Listening.{taken}
 use Rattle.framed_pieces.specs.Stream.{rest_of}
