@@ -1,6 +1,9 @@
 use crate::tests::{NARROW, WIDE, Wrong, fault_of, joined, message, read};
 use crate::{Agreed, BgpMessage};
-use acct_types::{AddressText, NoMemory, Octets, Update, append_decimal};
+use acct_types::{
+    Addr, AddressText, Announce, Hop, List, Nlri, NoMemory, Octets, Prefix, RouteAttrs, Update,
+    append_decimal,
+};
 use std::alloc::Global;
 use std::test::Fail;
 
@@ -614,6 +617,57 @@ fn a_path_of_long_numbers_stands(rt: HostRuntime) -> Result<(), Fail> {
         let mut path = Octets::new(rt.alloc());
         update.attrs.append_path_text(&mut path)?;
         assert_eq!(rt; path.as_slice(), *wanted);
+    }
+    Ok(())
+}
+
+// Whole messages but for their marker: 10.0.0.0/8 by 192.0.2.9, with the path 64512 23456 and AS4_PATH 131072; with the path 64512 64513;
+// and with ATOMIC_AGGREGATE besides.
+const MERGED: &[u8] = b"\0\x36\x02\0\0\0\x1d\x40\x01\x01\0\x40\x02\x06\x02\x02\xfc\0\x5b\xa0\
+\x40\x03\x04\xc0\0\x02\x09\xc0\x11\x06\x02\x01\0\x02\0\0\x08\x0a";
+
+const PLAIN: &[u8] = b"\0\x31\x02\0\0\0\x18\x40\x01\x01\0\x40\x02\x0a\x02\x02\0\0\xfc\0\0\0\xfc\x01\
+\x40\x03\x04\xc0\0\x02\x09\x08\x0a";
+
+const AGGREGATED: &[u8] =
+    b"\0\x34\x02\0\0\0\x1b\x40\x01\x01\0\x40\x02\x0a\x02\x02\0\0\xfc\0\0\0\xfc\x01\
+\x40\x03\x04\xc0\0\x02\x09\x40\x06\0\x08\x0a";
+
+static WHOLE: [(&'static [u8], Agreed, [u32; 2]); 3] = [
+    (MERGED, NARROW, [64512, 131_072]),
+    (PLAIN, WIDE, [64512, 64513]),
+    (AGGREGATED, WIDE, [64512, 64513]),
+];
+
+#[test]
+fn what_whole_messages_say(rt: HostRuntime) -> Result<(), Fail> {
+    let alloc = rt.alloc();
+    for (octets, agreed, [first, second]) in &WHOLE {
+        let octets = joined(alloc, &[&[255; 16], octets])?;
+        let mut path = List::new(alloc);
+        path.push(Hop::One(*first))?;
+        path.push(Hop::One(*second))?;
+        let mut announced = List::new(alloc);
+        announced.push(Announce {
+            nlri: Nlri {
+                prefix: Prefix::new(Addr::V4(0x0a00_0000), 8).ok_or("a prefix")?,
+                path_id: 0,
+            },
+            next_hop: Addr::V4(0xc000_0209),
+        })?;
+        let update = Update {
+            withdrawn: List::new(alloc),
+            announced,
+            attrs: RouteAttrs {
+                origin: 0,
+                path,
+                med: None,
+                local_pref: None,
+                communities: List::new(alloc),
+            },
+        };
+        let said = read(alloc, octets.as_slice(), agreed)?;
+        assert!(rt; said == Ok(BgpMessage::Update(update)));
     }
     Ok(())
 }
