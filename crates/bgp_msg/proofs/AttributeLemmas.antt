@@ -1,10 +1,10 @@
 -- Attributes, one after another.
-use Rattle.std.proofs.Common.{◌≡◌, ◌≢◌, ◌≤◌, ◌<◌, ◌+◌, ◌∙◌, ◌∷◌, [], ℕ, false, true, List, length, take, drop, refl, sym, ap, subst, arith}
+use Rattle.std.proofs.Common.{◌≡◌, ◌<◌, ◌+◌, ◌∙◌, ◌∷◌, [], ℕ, false, true, List, length, take, drop, refl, sym, ap, subst, arith}
 use Rattle.std.proofs.lemmas.Bool.{eq-eqb, eqb-true}
 use Rattle.std.proofs.lemmas.Grind.{get_or-set_at}
 use Rattle.std.proofs.lemmas.List.{get_or-replicate, get_or-set_other}
 use Rattle.std.specs.Prelude.{◌==◌, ◌||◌, Bool, Option, Some, None, if◌then◌else◌, replicate, set, slice_index_or}
-use Rattle.bgp_msg.specs.Attributes.{AreFormed, attribute_fault, attribute_size, attribute_type, attributes_fault, form_fault, head_size, is_among, is_cut, or_else, rule_fault, rule_of, value_in, value_of}
+use Rattle.bgp_msg.specs.Attributes.{AreFormed, attribute_fault, attribute_size, attribute_type, attributes_fault, form_fault, head_size, is_among, is_cut, or_else, rule_of, value_in, value_of}
 use Rattle.bgp_msg.specs.Frames.{fault}
 use Rattle.bgp_msg.specs.Pieces.{pieces}
 use Rattle.bgp_msg.specs.declared.attributes.Rule.{Rule}

@@ -1,5 +1,5 @@
 -- Values of their forms.
-use Rattle.std.proofs.Common.{◌≡◌, ◌≤◌, ◌∙◌, [], ℕ, false, true, List, length, refl, sym, ap, subst, arith}
+use Rattle.std.proofs.Common.{◌≡◌, [], ℕ, false, true, List, length, refl}
 use Rattle.std.proofs.lemmas.Bool.{eqb-true}
 use Rattle.std.specs.Option.{option_or}
 use Rattle.std.specs.Prelude.{◌==◌, Bool, Option, Some, None, if◌then◌else◌, not}
@@ -10,7 +10,6 @@ use Rattle.bgp_msg.specs.Pieces.{pieces}
 use Rattle.bgp_msg.specs.Prefixes.{bad_prefix}
 use Rattle.bgp_msg.specs.Updates.{IsNumber, attribute_octets, attributes_place, announced_octets, announced_place, parts_fault, prefix_fault, update_fault, withdrawn_octets}
 use Rattle.bgp_msg.specs.declared.attributes.Form.TheVariants.{Exactly}
-use Rattle.bgp_msg.specs.declared.attributes.Rule.{Rule}
 use Rattle.bgp_msg.specs.declared.families.Family.TheVariants.{V4}
 use Rattle.bgp_msg.specs.declared.message.Agreed.{Agreed}
 use Rattle.bgp_msg.specs.declared.message.BgpFault.{BgpFault}

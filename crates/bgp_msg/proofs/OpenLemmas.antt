@@ -1,12 +1,11 @@
 -- Parameters and capabilities, one after another.
-use Rattle.std.proofs.Common.{◌≡◌, ◌≤◌, ◌+◌, ◌∙◌, ◌∷◌, [], ℕ, false, true, List, length, take, drop, refl, sym, ap, arith}
+use Rattle.std.proofs.Common.{◌≡◌, ◌≤◌, ◌+◌, ◌∙◌, ◌∷◌, [], ℕ, false, true, List, length, take, drop, refl, sym, arith}
 use Rattle.std.proofs.lemmas.Bool.Decides.{nat_tests}
 use Rattle.std.specs.Prelude.{◌==◌, Bool, Option, Some, None, if◌then◌else◌, is_some, nat_lt, not, slice_index}
 use Rattle.std.specs.Option.{option_or}
 use Rattle.bgp_msg.specs.Items.{is_item_cut, item_kind, item_size, item_value, items}
 use Rattle.bgp_msg.specs.Opens.{are_capabilities, parameter_fault, parameters_fault, tell_some}
 use Rattle.bgp_msg.specs.Frames.{fault}
-use Rattle.bgp_msg.specs.Pieces.{pieces}
 use Rattle.bgp_msg.specs.declared.message.BgpFault.{BgpFault}
 use Rattle.bgp_msg.proofs.PieceLemmas.{HasSize, pieces_end, pieces_next}
 

@@ -10,5 +10,6 @@ pub mod Paths
 pub mod Pieces
 pub mod Prefixes
 pub mod Routes
+pub mod Spellings
 pub mod Updates
 pub mod Written

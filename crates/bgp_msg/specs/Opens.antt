@@ -1,6 +1,6 @@
 -- OPEN (RFC 4271, 4.2): version (1 octet), autonomous system (2), hold time (2), identifier (4), length of the parameters (1), parameters. A
 -- parameter is type (1), length (1), value; those of type 2 are lists of capabilities (RFC 5492, 4), each of code (1), length (1), value.
-use Rattle.std.specs.Prelude.{ℕ, ◌+◌, ◌==◌, ◌||◌, ◌&&◌, Bool, true, false, nat_lt, nat_le, List, [], ◌∷◌, length, drop, slice_index, Option, Some, None, is_some, if◌then◌else◌, not}
+use Rattle.std.specs.Prelude.{ℕ, ◌+◌, ◌==◌, ◌||◌, ◌&&◌, Bool, false, List, [], ◌∷◌, length, drop, slice_index, Option, Some, None, is_some, if◌then◌else◌, not}
 use Rattle.std.specs.List.{list_all}
 use Rattle.std.specs.Option.{option_or}
 use Rattle.acct_types.specs.Numbers.{number_at}

@@ -1,6 +1,6 @@
 -- UPDATE (RFC 4271, 4.3): length of the withdrawn prefixes (2 octets), withdrawn prefixes, length of the attributes (2), attributes, announced
 -- prefixes up to the end.
-use Rattle.std.specs.Prelude.{ℕ, ◌≡◌, ◌+◌, ◌/◌, ◌==◌, ◌||◌, ◌&&◌, Bool, true, false, nat_lt, List, [], ◌∷◌, ◌++◌, length, take, drop, map, slice_index, Option, Some, None, is_some, if◌then◌else◌, not}
+use Rattle.std.specs.Prelude.{ℕ, ◌≡◌, ◌+◌, ◌/◌, ◌==◌, ◌||◌, ◌&&◌, Bool, true, false, nat_lt, List, [], ◌++◌, length, take, drop, slice_index, Option, Some, None, is_some, if◌then◌else◌, not}
 use Rattle.std.specs.Option.{option_or}
 use Rattle.acct_types.specs.Updates.{Named, Route, Said}
 use Rattle.acct_types.specs.Numbers.{number_at}

@@ -1,7 +1,6 @@
-use Rattle.std.proofs.Common.{◌∙◌, List, ℕ, refl, sym}
+use Rattle.std.proofs.Common.{◌∙◌, sym}
 use Rattle.bgp_msg.specs.AddPaths.{said_of}
 use Rattle.bgp_msg.specs.Items.{item_size}
-use Rattle.bgp_msg.specs.Pieces.{last_of, pieces}
 use Rattle.bgp_msg.proofs.OpenLemmas.{has_size}
 use Rattle.bgp_msg.proofs.PieceLemmas.{last_end, last_next}
 use Rattle.bgp_msg.proofs.add_path.last_capability.Goals as goal

@@ -1,6 +1,5 @@
-use Rattle.std.proofs.Common.{◌∙◌, List, ℕ, refl, sym}
+use Rattle.std.proofs.Common.{◌∙◌, refl, sym}
 use Rattle.bgp_msg.specs.AddPaths.{said_by, tuple_size}
-use Rattle.bgp_msg.specs.Pieces.{last_of, pieces}
 use Rattle.bgp_msg.proofs.AddPathLemmas.{has_size}
 use Rattle.bgp_msg.proofs.PieceLemmas.{last_end, last_next}
 use Rattle.bgp_msg.proofs.add_path.last_tuple.Goals as goal

@@ -1,4 +1,4 @@
-use Rattle.std.proofs.Common.{◌<◌, ◌∙◌, ℕ, ap, arith, length, length-drop, refl, subst, sym}
+use Rattle.std.proofs.Common.{◌<◌, ◌∙◌, ap, arith, length, length-drop, refl, sym}
 use Rattle.std.proofs.lemmas.List.{length-set}
 use Rattle.bgp_msg.proofs.AttributeLemmas.{leads_begin, leads_end, leads_found, leads_next}
 use Rattle.bgp_msg.proofs.attributes.attributes_fault.Goals as goal

@@ -1,4 +1,3 @@
-use Rattle.std.proofs.Common.{arith}
 use Rattle.bgp_msg.proofs.FormLemmas.{reach_formed}
 use Rattle.bgp_msg.proofs.update.has_reached.Goals as goal
 

@@ -1,4 +1,3 @@
-use Rattle.std.proofs.Common.{arith}
 use Rattle.bgp_msg.proofs.FormLemmas.{path_formed}
 use Rattle.bgp_msg.proofs.update.path_in.Goals as goal
 

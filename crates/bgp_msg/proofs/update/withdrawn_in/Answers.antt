@@ -1,4 +1,3 @@
-use Rattle.std.proofs.Common.{arith}
 use Rattle.bgp_msg.proofs.FormLemmas.{unreach_formed}
 use Rattle.bgp_msg.proofs.update.withdrawn_in.Goals as goal
 
