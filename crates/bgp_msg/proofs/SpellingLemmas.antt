@@ -1,20 +1,22 @@
 -- What is spelled is read.
-use Rattle.std.proofs.Common.{◌≡◌, ◌≤◌, ◌<◌, ◌+◌, ◌-◌, ◌*◌, ◌^◌, ◌∙◌, ◌∷◌, ◌++◌, [], ℕ, false, true, List, length, take, drop, refl, sym, ap, append_assoc, length-append, arith}
-use Rattle.std.proofs.Math.Nat.{mul-suc}
+use Rattle.std.proofs.Common.{◌≡◌, ◌≤◌, ◌<◌, ◌+◌, ◌-◌, ◌*◌, ◌/◌, ◌%◌, ◌^◌, ◌∙◌, ◌∷◌, ◌++◌, [], ℕ, false, true, List, length, take, drop, refl, sym, ap, append_assoc, length-append, arith}
+use Rattle.std.proofs.Math.Nat.{div-add-mod, mul_comm, mul-suc}
 use Rattle.std.proofs.Math.Seq.{drop-append_seam, take-append_seam}
 use Rattle.std.proofs.lemmas.Bool.{ne_eqb}
 use Rattle.std.proofs.lemmas.Bool.Decides.{nat_tests}
-use Rattle.std.proofs.lemmas.List.{append-nil, length-take-le}
-use Rattle.std.specs.Prelude.{◌==◌, Bool, None, flat_map, if◌then◌else◌, map, nat_le}
+use Rattle.std.proofs.lemmas.List.{append-nil, length-take-le, replicate-append-replicate, take_all}
+use Rattle.std.specs.Prelude.{◌==◌, Bool, None, flat_map, if◌then◌else◌, map, nat_le, replicate}
 use Rattle.byteorder.specs.Endian.{big_bytes}
 use Rattle.byteorder.specs.Numbers.{big_number-reads_back, length-bytes_high_first}
 use Rattle.acct_types.specs.Numbers.{number_at}
+use Rattle.acct_types.specs.declared.addr.Addr.TheVariants as address
 use Rattle.acct_types.specs.declared.route.Hop.TheVariants.{One, Set}
 use Rattle.bgp_msg.specs.Paths.{hops_of, is_segment, number_width, numbers_of, replaced, segment_numbers, segment_size}
 use Rattle.bgp_msg.specs.Pieces.{pieces}
-use Rattle.bgp_msg.specs.Prefixes.{bad_prefix, is_bad, named, prefix_size, prefixes_in}
-use Rattle.bgp_msg.specs.Spellings.{Each, FitsPrefix, FitsSegment, ReadsPath, ReadsPrefixes, ReplacesTheLast, Segment, Spelled, hops_in, name_of, path_spelling, prefix_spelling, segment_spelling}
+use Rattle.bgp_msg.specs.Prefixes.{address_of, bad_prefix, filled, is_bad, named, prefix_size, prefixes_in}
+use Rattle.bgp_msg.specs.Spellings.{Each, FitsPrefix, FitsSegment, Names, ReadsAddress, ReadsPath, ReadsPrefixes, ReplacesTheLast, Segment, Spelled, hops_in, name_of, path_spelling, prefix_spelling, segment_spelling}
 use Rattle.bgp_msg.specs.declared.families.Family.{Family}
+use Rattle.bgp_msg.specs.declared.families.Family.TheVariants.{V4, V6}
 use Rattle.bgp_msg.proofs.PieceLemmas.{HasSize, pieces_next}
 use Rattle.bgp_msg.proofs.PrefixLemmas.{has_size as prefix_has_size}
 use Rattle.bgp_msg.proofs.SegmentLemmas.{has_size as segment_has_size}
@@ -130,3 +132,40 @@ names_are family (prefix ∷ prefixes) fits =
 
 pub reads_prefixes : ReadsPrefixes
 reads_prefixes family prefixes fits = (none_bad family 0 prefixes fits, names_are family prefixes fits)
+
+-- ---- the address of a prefix
+
+cleared : (number d : ℕ) → number % d ≡ 0 → number / d * d ≡ number
+cleared number d h =
+    let all = div-add-mod number d in
+    let turn = mul_comm d (number / d) in
+    omega (arith, all, turn, h)
+
+filled_are : (octets all : List ℕ) (size : ℕ) → size ≤ 16 → length octets ≤ size → octets ++ replicate (size - length octets) 0 ≡ all → filled octets ≡ all ++ replicate (16 - size) 0
+filled_are octets all size few short is =
+    let zeros : 16 - length octets ≡ (size - length octets) + (16 - size) = omega (arith, few, short) in
+    ap (λ (front : List ℕ). front ++ replicate (16 - length octets) 0) (take_all 16 octets (omega (arith, few, short)))
+    ∙ ap (λ (n : ℕ). octets ++ replicate n 0) zeros
+    ∙ ap (λ (behind : List ℕ). octets ++ behind) (sym (replicate-append-replicate (size - length octets) (16 - size) 0))
+    ∙ sym (append_assoc octets (replicate (size - length octets) 0) (replicate (16 - size) 0))
+    ∙ ap (λ (front : List ℕ). front ++ replicate (16 - size) 0) is
+
+number_is : (octets : List ℕ) (number size : ℕ) → size ≤ 16 → length octets ≤ size → number < 256 ^ size → octets ++ replicate (size - length octets) 0 ≡ big_bytes size number → number_at (filled octets) 0 size ≡ number
+unfolding number_at
+number_is octets number size few short fits is =
+    ap (λ (all : List ℕ). number_at all 0 size) (filled_are octets (big_bytes size number) size few short is) ∙ big_number-reads_back size number (replicate (16 - size) 0) fits
+
+pub reads_address : ReadsAddress
+unfolding address_of
+reads_address V4 number prefix fits names =
+    let bits = fits.few in
+    let all = fits.filled in
+    let short : length prefix.octets ≤ 4 = omega (arith, all, bits) in
+    ap (λ (n : ℕ). record { addr = address.V4 n; len = prefix.bits; path_id = 0 })
+    (ap (λ (n : ℕ). n / 2 ^ (32 - prefix.bits) * 2 ^ (32 - prefix.bits)) (number_is prefix.octets number 4 (omega arith) short names.fits names.octets) ∙ cleared number (2 ^ (32 - prefix.bits)) names.clear)
+reads_address V6 number prefix fits names =
+    let bits = fits.few in
+    let all = fits.filled in
+    let short : length prefix.octets ≤ 16 = omega (arith, all, bits) in
+    ap (λ (n : ℕ). record { addr = address.V6 n; len = prefix.bits; path_id = 0 })
+    (ap (λ (n : ℕ). n / 2 ^ (128 - prefix.bits) * 2 ^ (128 - prefix.bits)) (number_is prefix.octets number 16 (omega arith) short names.fits names.octets) ∙ cleared number (2 ^ (128 - prefix.bits)) names.clear)

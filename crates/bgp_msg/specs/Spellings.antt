@@ -1,13 +1,16 @@
 -- Path segments and prefixes, spelled as an UPDATE lists them (RFC 4271, 4.3, and RFC 6793, 3).
-use Rattle.std.specs.Prelude.{ℕ, ◌≡◌, ◌≤◌, ◌<◌, ◌+◌, ◌-◌, ◌/◌, ◌^◌, ◌==◌, Bool, true, List, [], ◌∷◌, length, take, map, flat_map, None, if◌then◌else◌}
+use Rattle.std.specs.Prelude.{ℕ, ◌≡◌, ◌≤◌, ◌<◌, ◌+◌, ◌-◌, ◌/◌, ◌%◌, ◌^◌, ◌==◌, Bool, true, List, [], ◌∷◌, ◌++◌, length, replicate, take, map, flat_map, None, if◌then◌else◌}
 use Rattle.byteorder.specs.Endian.{big_bytes}
 use Rattle.acct_types.specs.Prefixes.{network_of}
 use Rattle.acct_types.specs.Updates.{Named}
+use Rattle.acct_types.specs.declared.addr.Addr.{Addr}
+use Rattle.acct_types.specs.declared.addr.Addr.TheVariants as address
 use Rattle.acct_types.specs.declared.route.Hop.{Hop}
 use Rattle.acct_types.specs.declared.route.Hop.TheVariants.{One, Set}
 use Rattle.bgp_msg.specs.Paths.{is_path, number_width, path_of, replaced}
 use Rattle.bgp_msg.specs.Prefixes.{address_of, bad_prefix, prefixes_in, width}
 use Rattle.bgp_msg.specs.declared.families.Family.{Family}
+use Rattle.bgp_msg.specs.declared.families.Family.TheVariants.{V4, V6}
 
 -- each of them
 abbrev pub Each : {A : Type 0} → (A → Type 0) → List A → Type 0
@@ -69,3 +72,22 @@ name_of family prefix = record { addr = network_of prefix.bits (address_of famil
 abbrev pub ReadsPrefixes : Type 0
 ReadsPrefixes = (family : Family) (prefixes : List Spelled) → Each (FitsPrefix family) prefixes
     → (bad_prefix family 0 (flat_map prefix_spelling prefixes) ≡ None) × (prefixes_in family (flat_map prefix_spelling prefixes) ≡ map (name_of family) prefixes)
+
+abbrev pub address_from : Family → ℕ → Addr
+address_from V4 number = address.V4 number
+address_from V6 number = address.V6 number
+
+-- the octets of an address
+abbrev pub address_size : Family → ℕ
+address_size V4 = 4
+address_size V6 = 16
+
+-- The octets are those of this address but for zeros at its end, and its bits past the length are 0.
+pub record Names (family : Family) (number : ℕ) (prefix : Spelled) : Type 0 where
+  pub fits : number < 256 ^ address_size family
+  pub octets : prefix.octets ++ replicate (address_size family - length prefix.octets) 0 ≡ big_bytes (address_size family) number
+  pub clear : number % 2 ^ (width family - prefix.bits) ≡ 0
+
+abbrev pub ReadsAddress : Type 0
+ReadsAddress = (family : Family) (number : ℕ) (prefix : Spelled) → FitsPrefix family prefix → Names family number prefix
+    → name_of family prefix ≡ record { addr = address_from family number; len = prefix.bits; path_id = 0 }

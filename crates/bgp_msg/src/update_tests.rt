@@ -1,9 +1,6 @@
 use crate::tests::{NARROW, WIDE, Wrong, fault_of, joined, message, read};
 use crate::{Agreed, BgpMessage};
-use acct_types::{
-    Addr, AddressText, Announce, Hop, List, Nlri, NoMemory, Octets, Prefix, RouteAttrs, Update,
-    append_decimal,
-};
+use acct_types::{AddressText, NoMemory, Octets, Update, append_decimal};
 use std::alloc::Global;
 use std::test::Fail;
 
@@ -363,6 +360,15 @@ fn attributes_line(alloc: Global, update: &Update) -> Result<Octets, NoMemory> {
     Ok(line)
 }
 
+// What a whole UPDATE says.
+fn update_in(alloc: Global, octets: &[u8], agreed: &Agreed) -> Result<Update, Fail> {
+    match read(alloc, octets, agreed)? {
+        Ok(BgpMessage::Update(update)) => Ok(update),
+        Ok(_) => Err("not an UPDATE".into()),
+        Err(_) => Err("refused".into()),
+    }
+}
+
 // What an UPDATE of these parts says.
 fn update_of(
     alloc: Global,
@@ -373,11 +379,7 @@ fn update_of(
 ) -> Result<Update, Fail> {
     let body = body_of(alloc, withdrawn, attributes, announced)?;
     let octets = message(alloc, UPDATE, &[body.as_slice()])?;
-    match read(alloc, octets.as_slice(), agreed)? {
-        Ok(BgpMessage::Update(update)) => Ok(update),
-        Ok(_) => Err("not an UPDATE".into()),
-        Err(_) => Err("refused".into()),
-    }
+    update_in(alloc, octets.as_slice(), agreed)
 }
 
 // Withdrawn prefixes, attributes, announced prefixes, and what they say of prefixes.
@@ -633,41 +635,21 @@ const AGGREGATED: &[u8] =
     b"\0\x34\x02\0\0\0\x1b\x40\x01\x01\0\x40\x02\x0a\x02\x02\0\0\xfc\0\0\0\xfc\x01\
 \x40\x03\x04\xc0\0\x02\x09\x40\x06\0\x08\x0a";
 
-static WHOLE: [(&'static [u8], Agreed, [u32; 2]); 3] = [
-    (MERGED, NARROW, [64512, 131_072]),
-    (PLAIN, WIDE, [64512, 64513]),
-    (AGGREGATED, WIDE, [64512, 64513]),
+static WHOLE: [(&'static [u8], Agreed, &'static [u8]); 3] = [
+    (MERGED, NARROW, b"0 64512_131072 - - "),
+    (PLAIN, WIDE, b"0 64512_64513 - - "),
+    (AGGREGATED, WIDE, b"0 64512_64513 - - "),
 ];
 
 #[test]
 fn what_whole_messages_say(rt: HostRuntime) -> Result<(), Fail> {
-    let alloc = rt.alloc();
-    for (octets, agreed, [first, second]) in &WHOLE {
-        let octets = joined(alloc, &[&[255; 16], octets])?;
-        let mut path = List::new(alloc);
-        path.push(Hop::One(*first))?;
-        path.push(Hop::One(*second))?;
-        let mut announced = List::new(alloc);
-        announced.push(Announce {
-            nlri: Nlri {
-                prefix: Prefix::new(Addr::V4(0x0a00_0000), 8).ok_or("a prefix")?,
-                path_id: 0,
-            },
-            next_hop: Addr::V4(0xc000_0209),
-        })?;
-        let update = Update {
-            withdrawn: List::new(alloc),
-            announced,
-            attrs: RouteAttrs {
-                origin: 0,
-                path,
-                med: None,
-                local_pref: None,
-                communities: List::new(alloc),
-            },
-        };
-        let said = read(alloc, octets.as_slice(), agreed)?;
-        assert!(rt; said == Ok(BgpMessage::Update(update)));
+    for (octets, agreed, wanted) in &WHOLE {
+        let octets = joined(rt.alloc(), &[&[255; 16], octets])?;
+        let update = update_in(rt.alloc(), octets.as_slice(), agreed)?;
+        let attributes = attributes_line(rt.alloc(), &update)?;
+        assert_eq!(rt; attributes.as_slice(), *wanted);
+        let prefixes = prefixes_line(rt.alloc(), &update)?;
+        assert_eq!(rt; prefixes.as_slice(), b"+10.0.0.0/8>192.0.2.9 ".as_slice());
     }
     Ok(())
 }
