@@ -1,3 +1,4 @@
+pub mod AddPathLemmas
 pub mod AttributeLemmas
 pub mod FormLemmas
 pub mod FrameLemmas
@@ -5,5 +6,6 @@ pub mod OpenLemmas
 pub mod PieceLemmas
 pub mod PrefixLemmas
 pub mod SegmentLemmas
+pub mod SpellingLemmas
 pub mod WriteLemmas
 pub mod WrittenLemmas

@@ -1,11 +1,11 @@
 -- Parameters and capabilities, one after another.
-use Rattle.std.proofs.Common.{◌≡◌, ◌≤◌, ◌+◌, ◌∙◌, ◌∷◌, [], ℕ, false, true, List, length, take, drop, refl, sym, ap, arith}
+use Rattle.std.proofs.Common.{◌≡◌, ◌≤◌, ◌+◌, ◌∙◌, ◌∷◌, [], ℕ, false, true, List, length, take, drop, refl, sym, arith}
 use Rattle.std.proofs.lemmas.Bool.Decides.{nat_tests}
 use Rattle.std.specs.Prelude.{◌==◌, Bool, Option, Some, None, if◌then◌else◌, is_some, nat_lt, not, slice_index}
 use Rattle.std.specs.Option.{option_or}
-use Rattle.bgp_msg.specs.Opens.{are_capabilities, is_item_cut, item_kind, item_size, item_value, items, last_told, parameter_fault, parameters_fault, tell_some, told_by, told_in}
+use Rattle.bgp_msg.specs.Items.{is_item_cut, item_kind, item_size, item_value, items}
+use Rattle.bgp_msg.specs.Opens.{are_capabilities, parameter_fault, parameters_fault, tell_some}
 use Rattle.bgp_msg.specs.Frames.{fault}
-use Rattle.bgp_msg.specs.Pieces.{pieces}
 use Rattle.bgp_msg.specs.declared.message.BgpFault.{BgpFault}
 use Rattle.bgp_msg.proofs.PieceLemmas.{HasSize, pieces_end, pieces_next}
 
@@ -81,23 +81,3 @@ pub good_first : (n : ℕ) (octets parameter rest : List ℕ) → false ≡ (len
 good_first n octets parameter rest h is front behind good =
     let both = or_none (parameter_fault 29 parameter) _ (rw (pieces_next item_size n octets parameter rest has_size h is front behind) at good) in
     (both.0, any_place (29 + length parameter) 29 (items rest) both.1)
-
-or_assoc : {T : Type 0} (a b c : Option T) → option_or a (option_or b c) ≡ option_or (option_or a b) c
-or_assoc None b c = refl
-or_assoc (Some a) b c = refl
-
-pub last_end : (found : Option ℕ) (octets : List ℕ) → true ≡ (length octets == 0) → option_or (last_told (items octets)) found ≡ found
-last_end found octets h = rw (pieces_end item_size octets h) refl
-
-pub last_next : (found : Option ℕ) (n : ℕ) (octets capability rest : List ℕ) (all : Option ℕ) → false ≡ (length octets == 0) → n ≡ item_size octets → capability ≡ take n octets → rest ≡ drop n octets
-    → option_or (last_told (items octets)) found ≡ all → option_or (last_told (items rest)) (option_or (told_by capability) found) ≡ all
-last_next found n octets capability rest all h is front behind kept =
-    rw (or_assoc (last_told (items rest)) (told_by capability) found) (rw (pieces_next item_size n octets capability rest has_size h is front behind) at kept)
-
-pub told_end : (found : Option ℕ) (octets : List ℕ) → true ≡ (length octets == 0) → option_or (told_in (items octets)) found ≡ found
-told_end found octets h = rw (pieces_end item_size octets h) refl
-
-pub told_next : (found : Option ℕ) (n : ℕ) (octets parameter rest : List ℕ) (all : Option ℕ) → false ≡ (length octets == 0) → n ≡ item_size octets → parameter ≡ take n octets → rest ≡ drop n octets
-    → option_or (told_in (items octets)) found ≡ all → option_or (told_in (items rest)) (option_or (last_told (items (item_value parameter))) found) ≡ all
-told_next found n octets parameter rest all h is front behind kept =
-    rw (or_assoc (told_in (items rest)) (last_told (items (item_value parameter))) found) (rw (pieces_next item_size n octets parameter rest has_size h is front behind) at kept)

@@ -1,9 +1,10 @@
 -- Pieces, one after another.
-use Rattle.std.proofs.Common.{◌≡◌, ◌≤◌, ◌+◌, ◌-◌, ◌∙◌, ◌∷◌, [], ℕ, zero, suc, false, true, List, length, take, drop, refl, sym, ap, length-drop, arith}
+use Rattle.std.proofs.Common.{◌≡◌, ◌≤◌, ◌∙◌, ◌∷◌, [], ℕ, zero, suc, false, true, List, length, take, drop, refl, sym, ap, length-drop, arith}
 use Rattle.std.proofs.lemmas.Bool.{eqb-true}
-use Rattle.std.specs.Prelude.{◌==◌, ◌&&◌, Bool}
+use Rattle.std.specs.Option.{option_or}
+use Rattle.std.specs.Prelude.{◌==◌, ◌&&◌, Bool, Option, Some, None}
 use Rattle.std.specs.List.{list_all}
-use Rattle.bgp_msg.specs.Pieces.{pieces, pieces_from}
+use Rattle.bgp_msg.specs.Pieces.{last_of, pieces, pieces_from}
 
 -- a size of one octet at least
 abbrev pub HasSize : (List ℕ → ℕ) → Type 0
@@ -70,3 +71,18 @@ all_first test size n octets piece rest some h is front behind all =
     split : (a b : Bool) → (a && b) ≡ true → (a ≡ true) × (b ≡ true)
     split true b h = (refl, h)
     split false b h = absurd (cc)
+
+-- ---- the last that says something
+
+or_assoc : {A : Type 0} (a b c : Option A) → option_or a (option_or b c) ≡ option_or (option_or a b) c
+or_assoc None b c = refl
+or_assoc (Some a) b c = refl
+
+pub last_end : {A : Type 0} (says : List ℕ → Option A) (size : List ℕ → ℕ) (found : Option A) (octets : List ℕ) → true ≡ (length octets == 0) → option_or (last_of says (pieces size octets)) found ≡ found
+last_end says size found octets h = rw (pieces_end size octets h) refl
+
+pub last_next : {A : Type 0} (says : List ℕ → Option A) (size : List ℕ → ℕ) (found : Option A) (n : ℕ) (octets piece rest : List ℕ) (all : Option A) → HasSize size → false ≡ (length octets == 0)
+    → n ≡ size octets → piece ≡ take n octets → rest ≡ drop n octets → option_or (last_of says (pieces size octets)) found ≡ all
+    → option_or (last_of says (pieces size rest)) (option_or (says piece) found) ≡ all
+last_next says size found n octets piece rest all some h is front behind kept =
+    rw (or_assoc (last_of says (pieces size rest)) (says piece) found) (rw (pieces_next size n octets piece rest some h is front behind) at kept)

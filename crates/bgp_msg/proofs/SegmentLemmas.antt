@@ -1,10 +1,9 @@
 -- Paths, one segment and one number after another.
-use Rattle.std.proofs.Common.{◌≡◌, ◌≤◌, ◌<◌, ◌+◌, ◌-◌, ◌*◌, ◌∙◌, ◌∷◌, ◌++◌, [], ℕ, suc, false, true, List, length, take, drop, length-drop, refl, sym, ap, arith}
+use Rattle.std.proofs.Common.{◌≡◌, ◌≤◌, ◌<◌, ◌+◌, ◌-◌, ◌*◌, ◌∷◌, ◌++◌, [], ℕ, suc, false, true, List, length, take, drop, length-drop, refl, arith}
 use Rattle.std.proofs.Math.Nat.{mul-suc}
 use Rattle.std.specs.Prelude.{◌==◌, Bool}
 use Rattle.acct_types.specs.Numbers.{number_at}
-use Rattle.bgp_msg.specs.Pieces.{pieces}
-use Rattle.bgp_msg.specs.Paths.{all_hops, hops_of, numbers_of, path_of, segment_size}
+use Rattle.bgp_msg.specs.Paths.{hops_of, numbers_of, path_of, segment_size}
 use Rattle.bgp_msg.proofs.PieceLemmas.{HasSize, pieces_end, pieces_next}
 
 pub has_size : (wide : Bool) → HasSize (segment_size wide)

@@ -1,5 +1,5 @@
 -- An OPEN, piece by piece.
-use Rattle.std.proofs.Common.{◌≡◌, ◌++◌, ◌∷◌, [], ℕ, List, append_assoc, refl}
+use Rattle.std.proofs.Common.{◌≡◌, ◌++◌, ◌∷◌, [], ℕ, refl}
 use Rattle.byteorder.specs.Endian.{big_bytes}
 use Rattle.bgp_msg.specs.Written.{open_spelling, short_asn}
 

@@ -6,11 +6,15 @@ use Rattle.std.specs.Prelude.{Bool, ◌⊎◌, ◌==◌, ◌||◌, Some, None, O
 use Rattle.byteorder.specs.Endian.{big_bytes}
 use Rattle.byteorder.specs.Numbers.{big_number-reads_back}
 use Rattle.acct_types.specs.Numbers.{number_at}
+use Rattle.bgp_msg.specs.AddPaths.{add_path_in, said_of}
 use Rattle.bgp_msg.specs.Frames.{framed, header_fault, length_of}
 use Rattle.bgp_msg.specs.Laws.{FitsOpen, ReadsKeepalive, ReadsNotification, ReadsOpen}
 use Rattle.bgp_msg.specs.Messages.{body_fault}
-use Rattle.bgp_msg.specs.Opens.{field_asn, hello_of, hold_of, id_of, is_capability, item_size, items, number_of, open_fault, parameter_fault, parameters_fault, parameters_of, tells_some, told, version_of}
+use Rattle.bgp_msg.specs.Items.{item_size, items}
+use Rattle.bgp_msg.specs.Opens.{field_asn, hello_of, hold_of, id_of, is_capability, number_of, open_fault, parameter_fault, parameters_fault, parameters_of, tells_some, told, version_of}
 use Rattle.bgp_msg.specs.Pieces.{pieces}
+use Rattle.bgp_msg.specs.declared.families.Family.{Family}
+use Rattle.bgp_msg.specs.declared.families.Family.TheVariants.{V4, V6}
 use Rattle.bgp_msg.specs.Written.{capabilities, keepalive_spelling, notification_spelling, open_spelling, short_asn}
 
 -- a good header that tells the length that is there
@@ -94,9 +98,14 @@ not_short hold some =
     clash n least most e (inr long) = omega (arith, most, e, long)
 
 hello_is : (octets : List ℕ) (asn hold id : ℕ) → told octets ≡ Some asn → hold_of octets ≡ hold → id_of octets ≡ id
-    → record { asn = asn; hold = hold; id = id; four_octets = true; path_ids_v4 = false; path_ids_v6 = false } ≡ hello_of octets
+    → ((family : Family) → add_path_in family (items (parameters_of octets)) ≡ None)
+    → record { asn = asn; hold = hold; id = id; four_octets = true; path_ids_v4 = false; path_ids_v6 = false; add_path_v4 = None; add_path_v6 = None } ≡ hello_of octets
 unfolding hello_of
-hello_is octets asn hold id number time name = rw (number, time, name) refl
+hello_is octets asn hold id number time name paths = rw (number, time, name, paths V4, paths V6) refl
+
+no_paths : (asn hold id : ℕ) (family : Family) → add_path_in family (items (parameters_of (open_spelling asn hold id))) ≡ None
+unfolding said_of
+no_paths asn hold id family = rw (parameter_is asn hold id, capabilities_are asn) refl
 
 version_is : (asn hold id : ℕ) → version_of (open_spelling asn hold id) ≡ 4
 unfolding open_spelling
@@ -125,7 +134,7 @@ reads_open asn hold id fits = (
   whole_message (open_spelling asn hold id) (omega arith) refl refl,
   λ agreed. (
     spelled_good asn hold id fits,
-    (refl, hello_is (open_spelling asn hold id) asn hold id (told_is asn hold id fits.short_asn) (hold_is asn hold id fits.short_hold) (id_is asn hold id fits.short_id)),
+    (refl, hello_is (open_spelling asn hold id) asn hold id (told_is asn hold id fits.short_asn) (hold_is asn hold id fits.short_hold) (id_is asn hold id fits.short_id) (no_paths asn hold id)),
   ),
 )
 

@@ -7,6 +7,7 @@ use Rattle.bgp_msg.specs.Paths.{is_path}
 use Rattle.bgp_msg.specs.declared.attributes.Form.{Form}
 use Rattle.bgp_msg.specs.declared.attributes.Form.TheVariants as form
 use Rattle.bgp_msg.specs.declared.attributes.Rule.{Rule}
+use Rattle.bgp_msg.specs.declared.message.Agreed.{Agreed}
 use Rattle.bgp_msg.specs.declared.message.BgpFault.{BgpFault}
 
 -- The flags, from the highest bit: optional, transitive, partial, extended length. The first two together make 1 where an attribute is
@@ -59,40 +60,40 @@ unless test subcode = if test then None else Some subcode
 
 -- The subcode that refuses a value for its form (RFC 4271, 6.3). The origin is 0 to 2. AS4_PATH may have any form: a malformed one is passed
 -- over.
-unfoldable pub form_fault : Bool → Form → List ℕ → Option ℕ
-form_fault wide form.Origin value = if not (length value == 1) then Some 5 else unless (nat_le (slice_index value 0) 2) 6
-form_fault wide form.Path value = unless (is_path wide value) 11
-form_fault wide (form.Exactly size) value = unless (length value == size) 5
-form_fault wide form.Numbers value = unless (length value % 4 == 0) 5
-form_fault wide form.Reach value = unless (is_reach value) 9
-form_fault wide form.Unreach value = unless (is_unreach value) 9
-form_fault wide form.Free value = None
+unfoldable pub form_fault : Agreed → Form → List ℕ → Option ℕ
+form_fault agreed form.Origin value = if not (length value == 1) then Some 5 else unless (nat_le (slice_index value 0) 2) 6
+form_fault agreed form.Path value = unless (is_path agreed.four_octets value) 11
+form_fault agreed (form.Exactly size) value = unless (length value == size) 5
+form_fault agreed form.Numbers value = unless (length value % 4 == 0) 5
+form_fault agreed form.Reach value = unless (is_reach value) 9
+form_fault agreed form.Unreach value = unless (is_unreach value) 9
+form_fault agreed form.Free value = None
 
 -- one whose type isn't known must be optional, and is passed over
-abbrev pub rule_fault : Bool → List ℕ → Option Rule → Option ℕ
-rule_fault wide attribute None = unless (nat_le 2 (class_of attribute)) 2
-rule_fault wide attribute (Some rule) = if not (class_of attribute == rule.class) then Some 4 else form_fault wide rule.form (value_of attribute)
+abbrev pub rule_fault : Agreed → List ℕ → Option Rule → Option ℕ
+rule_fault agreed attribute None = unless (nat_le 2 (class_of attribute)) 2
+rule_fault agreed attribute (Some rule) = if not (class_of attribute == rule.class) then Some 4 else form_fault agreed rule.form (value_of attribute)
 
 abbrev pub is_among : ℕ → List ℕ → Bool
 is_among type [] = false
 is_among type (other ∷ others) = type == other || is_among type others
 
 -- The subcode that refuses an attribute, which stands behind those of these types.
-unfoldable pub attribute_fault : Bool → List ℕ → List ℕ → Option ℕ
-attribute_fault wide before attribute =
+unfoldable pub attribute_fault : Agreed → List ℕ → List ℕ → Option ℕ
+attribute_fault agreed before attribute =
     if is_cut attribute || is_among (attribute_type attribute) before then Some 1
-    else rule_fault wide attribute (rule_of (attribute_type attribute))
+    else rule_fault agreed attribute (rule_of (attribute_type attribute))
 
 abbrev pub or_else : ℕ → Option ℕ → Option BgpFault → Option BgpFault
 or_else place None others = others
 or_else place (Some subcode) others = Some (fault 3 subcode place)
 
 -- what is wrong first with attributes, of which the first stands at this place
-abbrev pub attributes_fault : Bool → List ℕ → ℕ → List (List ℕ) → Option BgpFault
-attributes_fault wide before place [] = None
-attributes_fault wide before place (attribute ∷ others) =
-    or_else place (attribute_fault wide before attribute)
-    (attributes_fault wide (attribute_type attribute ∷ before) (place + length attribute) others)
+abbrev pub attributes_fault : Agreed → List ℕ → ℕ → List (List ℕ) → Option BgpFault
+attributes_fault agreed before place [] = None
+attributes_fault agreed before place (attribute ∷ others) =
+    or_else place (attribute_fault agreed before attribute)
+    (attributes_fault agreed (attribute_type attribute ∷ before) (place + length attribute) others)
 
 -- the value of the attribute of this type
 abbrev pub value_in : ℕ → List (List ℕ) → Option (List ℕ)
@@ -100,5 +101,5 @@ value_in type [] = None
 value_in type (attribute ∷ others) = if attribute_type attribute == type then Some (value_of attribute) else value_in type others
 
 -- each attribute has the form of its type
-abbrev pub AreFormed : Bool → List (List ℕ) → Type 0
-AreFormed wide attributes = (type : ℕ) (value : List ℕ) (rule : Rule) → value_in type attributes ≡ Some value → rule_of type ≡ Some rule → form_fault wide rule.form value ≡ None
+abbrev pub AreFormed : Agreed → List (List ℕ) → Type 0
+AreFormed agreed attributes = (type : ℕ) (value : List ℕ) (rule : Rule) → value_in type attributes ≡ Some value → rule_of type ≡ Some rule → form_fault agreed rule.form value ≡ None

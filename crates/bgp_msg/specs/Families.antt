@@ -1,7 +1,7 @@
 -- Routes of a family (RFC 4760). MP_REACH_NLRI: family (2 octets), subfamily (1), length of the next hop (1), next hop, reserved (1), prefixes.
 -- MP_UNREACH_NLRI: family (2), subfamily (1), prefixes. Unicast routes of IPv4 (1/1) and of IPv6 (2/1) are kept; other families are passed
 -- over.
-use Rattle.std.specs.Prelude.{ℕ, ◌+◌, ◌==◌, ◌||◌, ◌&&◌, Bool, true, false, nat_lt, nat_le, List, [], length, drop, map, slice_index, Option, Some, None, is_none, if◌then◌else◌, not}
+use Rattle.std.specs.Prelude.{ℕ, ◌+◌, ◌==◌, ◌||◌, ◌&&◌, Bool, true, false, nat_lt, nat_le, List, [], length, drop, slice_index, Option, Some, None, is_none, if◌then◌else◌, not}
 use Rattle.acct_types.specs.Updates.{Named}
 use Rattle.acct_types.specs.Numbers.{number_at}
 use Rattle.acct_types.specs.declared.addr.Addr.{Addr}

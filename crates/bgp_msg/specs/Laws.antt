@@ -43,7 +43,7 @@ pub record FitsOpen (asn hold id : ℕ) : Type 0 where
 
 abbrev pub ReadsOpen : Type 0
 ReadsOpen = (asn hold id : ℕ) → FitsOpen asn hold id
-    → IsReadAs (open_spelling asn hold id) (message.Hello (record { asn = asn; hold = hold; id = id; four_octets = true; path_ids_v4 = false; path_ids_v6 = false }))
+    → IsReadAs (open_spelling asn hold id) (message.Hello (record { asn = asn; hold = hold; id = id; four_octets = true; path_ids_v4 = false; path_ids_v6 = false; add_path_v4 = None; add_path_v6 = None }))
 
 abbrev pub ReadsKeepalive : Type 0
 ReadsKeepalive = IsReadAs keepalive_spelling message.Keepalive

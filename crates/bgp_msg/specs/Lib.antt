@@ -1,6 +1,8 @@
+pub mod AddPaths
 pub mod Attributes
 pub mod Families
 pub mod Frames
+pub mod Items
 pub mod Laws
 pub mod Messages
 pub mod Opens
@@ -8,5 +10,6 @@ pub mod Paths
 pub mod Pieces
 pub mod Prefixes
 pub mod Routes
+pub mod Spellings
 pub mod Updates
 pub mod Written

@@ -15,13 +15,13 @@ use Rattle.bgp_msg.specs.declared.message.BgpRefusal.TheVariants as refusal
 unfoldable pub body_fault : Agreed → List ℕ → Option BgpFault
 body_fault agreed octets =
     if kind_of octets == 1 then open_fault octets
-    else (if kind_of octets == 2 then update_fault agreed.four_octets octets
+    else (if kind_of octets == 2 then update_fault agreed octets
     else None)
 
 -- what a message without a fault says
 abbrev pub Says : Agreed → List ℕ → BgpMessage → Type 0
 Says agreed octets (message.Hello hello) = (kind_of octets ≡ 1) × (hello ≡ hello_of octets)
-Says agreed octets (message.Update update) = (kind_of octets ≡ 2) × (update_view update ≡ said agreed.four_octets octets)
+Says agreed octets (message.Update update) = (kind_of octets ≡ 2) × (update_view update ≡ said agreed octets)
 Says agreed octets (message.Notification code subcode) = (kind_of octets ≡ 3) × (code ≡ slice_index octets 19) × (subcode ≡ slice_index octets 20)
 Says agreed octets message.Keepalive = kind_of octets ≡ 4
 

@@ -1,29 +1,16 @@
 -- OPEN (RFC 4271, 4.2): version (1 octet), autonomous system (2), hold time (2), identifier (4), length of the parameters (1), parameters. A
 -- parameter is type (1), length (1), value; those of type 2 are lists of capabilities (RFC 5492, 4), each of code (1), length (1), value.
-use Rattle.std.specs.Prelude.{ℕ, ◌+◌, ◌==◌, ◌||◌, ◌&&◌, Bool, true, false, nat_lt, nat_le, List, [], ◌∷◌, length, drop, slice_index, Option, Some, None, is_some, if◌then◌else◌, not}
+use Rattle.std.specs.Prelude.{ℕ, ◌+◌, ◌==◌, ◌||◌, ◌&&◌, Bool, false, List, [], ◌∷◌, length, drop, slice_index, Option, Some, None, is_some, if◌then◌else◌, not}
 use Rattle.std.specs.List.{list_all}
 use Rattle.std.specs.Option.{option_or}
 use Rattle.acct_types.specs.Numbers.{number_at}
+use Rattle.bgp_msg.specs.AddPaths.{add_path_in}
 use Rattle.bgp_msg.specs.Frames.{fault}
-use Rattle.bgp_msg.specs.Pieces.{pieces}
+use Rattle.bgp_msg.specs.Items.{is_item_cut, item_kind, item_value, items}
+use Rattle.bgp_msg.specs.Pieces.{last_of}
+use Rattle.bgp_msg.specs.declared.families.Family.TheVariants.{V4, V6}
 use Rattle.bgp_msg.specs.declared.message.BgpFault.{BgpFault}
 use Rattle.bgp_msg.specs.declared.message.Hello.{Hello}
-
--- parameters and capabilities alike have a kind, a length and a value
-unfoldable pub item_size : List ℕ → ℕ
-item_size octets = 2 + slice_index octets 1
-
-abbrev pub item_kind : List ℕ → ℕ
-item_kind item = slice_index item 0
-
-abbrev pub item_value : List ℕ → List ℕ
-item_value item = drop 2 item
-
-abbrev pub is_item_cut : List ℕ → Bool
-is_item_cut item = nat_lt (length item) (item_size item)
-
-abbrev pub items : List ℕ → List (List ℕ)
-items octets = pieces item_size octets
 
 -- the capability of four-octet numbers (RFC 6793, 3), whose value is the autonomous system
 abbrev pub is_wide : List ℕ → Bool
@@ -89,12 +76,10 @@ abbrev pub told_by : List ℕ → Option ℕ
 told_by capability = if is_wide capability then Some (number_of capability) else None
 
 abbrev pub last_told : List (List ℕ) → Option ℕ
-last_told [] = None
-last_told (capability ∷ others) = option_or (last_told others) (told_by capability)
+last_told capabilities = last_of told_by capabilities
 
 abbrev pub told_in : List (List ℕ) → Option ℕ
-told_in [] = None
-told_in (parameter ∷ others) = option_or (told_in others) (last_told (items (item_value parameter)))
+told_in parameters = last_of (λ parameter. last_told (items (item_value parameter))) parameters
 
 abbrev pub told : List ℕ → Option ℕ
 told octets = told_in (items (parameters_of octets))
@@ -112,4 +97,6 @@ hello_of octets = record {
   four_octets = is_some (told octets);
   path_ids_v4 = false;
   path_ids_v6 = false;
+  add_path_v4 = add_path_in V4 (items (parameters_of octets));
+  add_path_v6 = add_path_in V6 (items (parameters_of octets));
 }

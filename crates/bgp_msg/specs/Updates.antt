@@ -1,6 +1,6 @@
 -- UPDATE (RFC 4271, 4.3): length of the withdrawn prefixes (2 octets), withdrawn prefixes, length of the attributes (2), attributes, announced
 -- prefixes up to the end.
-use Rattle.std.specs.Prelude.{ℕ, ◌≡◌, ◌+◌, ◌/◌, ◌==◌, ◌||◌, ◌&&◌, Bool, true, false, nat_lt, List, [], ◌∷◌, ◌++◌, length, take, drop, map, slice_index, Option, Some, None, is_some, if◌then◌else◌, not}
+use Rattle.std.specs.Prelude.{ℕ, ◌≡◌, ◌+◌, ◌/◌, ◌==◌, ◌||◌, ◌&&◌, Bool, true, false, nat_lt, List, [], ◌++◌, length, take, drop, slice_index, Option, Some, None, is_some, if◌then◌else◌, not}
 use Rattle.std.specs.Option.{option_or}
 use Rattle.acct_types.specs.Updates.{Named, Route, Said}
 use Rattle.acct_types.specs.Numbers.{number_at}
@@ -17,6 +17,7 @@ use Rattle.bgp_msg.specs.Routes.{routes}
 use Rattle.bgp_msg.specs.declared.attributes.Form.TheVariants.{Exactly}
 use Rattle.bgp_msg.specs.declared.attributes.Rule.{Rule}
 use Rattle.bgp_msg.specs.declared.families.Family.TheVariants.{V4}
+use Rattle.bgp_msg.specs.declared.message.Agreed.{Agreed}
 use Rattle.bgp_msg.specs.declared.message.BgpFault.{BgpFault}
 
 abbrev pub withdrawn_length : List ℕ → ℕ
@@ -67,10 +68,10 @@ lack_fault true = Some (fault 3 3 19)
 lack_fault false = None
 
 -- what is wrong with whole parts, first: withdrawn prefixes, one attribute after another, announced prefixes, and what those lack
-unfoldable pub parts_fault : Bool → List ℕ → ℕ → List ℕ → ℕ → List ℕ → Option BgpFault
-parts_fault wide withdrawn attributes_place attributes announced_place announced =
+unfoldable pub parts_fault : Agreed → List ℕ → ℕ → List ℕ → ℕ → List ℕ → Option BgpFault
+parts_fault agreed withdrawn attributes_place attributes announced_place announced =
     option_or (prefix_fault (bad_prefix V4 21 withdrawn))
-    (option_or (attributes_fault wide [] attributes_place (pieces attribute_size attributes))
+    (option_or (attributes_fault agreed [] attributes_place (pieces attribute_size attributes))
     (option_or (prefix_fault (bad_prefix V4 announced_place announced))
     (lack_fault (lacks (pieces attribute_size attributes) (not (length announced == 0))))))
 
@@ -82,10 +83,10 @@ lengths_fault octets =
     else None)
 
 -- What is wrong with an UPDATE, first (RFC 4271, 6.3). Its two lengths are judged before its parts.
-abbrev pub update_fault : Bool → List ℕ → Option BgpFault
-update_fault wide octets =
+abbrev pub update_fault : Agreed → List ℕ → Option BgpFault
+update_fault agreed octets =
     option_or (lengths_fault octets)
-    (parts_fault wide (withdrawn_octets octets) (attributes_place octets) (attribute_octets octets) (announced_place octets) (announced_octets octets))
+    (parts_fault agreed (withdrawn_octets octets) (attributes_place octets) (attribute_octets octets) (announced_place octets) (announced_octets octets))
 
 -- ---- what it says
 
@@ -114,13 +115,13 @@ abbrev pub merged : List Hop → Option (List ℕ) → List Hop
 merged path None = path
 merged path (Some value) = if is_path true value then replaced path (path_of true value) else path
 
-abbrev pub whole_path : Bool → List (List ℕ) → List Hop
-whole_path wide attributes = if wide then path_in true (value_in 2 attributes) else merged (path_in false (value_in 2 attributes)) (value_in 17 attributes)
+abbrev pub whole_path : Agreed → List (List ℕ) → List Hop
+whole_path agreed attributes = if agreed.four_octets then path_in true (value_in 2 attributes) else merged (path_in false (value_in 2 attributes)) (value_in 17 attributes)
 
-unfoldable pub attrs_of : Bool → List (List ℕ) → RouteAttrs
-attrs_of wide attributes = record {
+unfoldable pub attrs_of : Agreed → List (List ℕ) → RouteAttrs
+attrs_of agreed attributes = record {
   origin = origin_in (value_in 1 attributes);
-  path = whole_path wide attributes;
+  path = whole_path agreed attributes;
   med = number_in (value_in 4 attributes);
   local_pref = number_in (value_in 5 attributes);
   communities = communities_in (value_in 8 attributes);
@@ -143,9 +144,9 @@ names_unreached None = []
 names_unreached (Some value) = unreached value
 
 -- what an UPDATE says
-unfoldable pub said : Bool → List ℕ → Said
-said wide octets = record {
+unfoldable pub said : Agreed → List ℕ → Said
+said agreed octets = record {
   withdrawn = prefixes_in V4 (withdrawn_octets octets) ++ names_unreached (value_in 15 (attributes_of octets));
   announced = routes_behind (value_in 3 (attributes_of octets)) (announced_octets octets) ++ routes_reached (value_in 14 (attributes_of octets));
-  attrs = attrs_of wide (attributes_of octets);
+  attrs = attrs_of agreed (attributes_of octets);
 }

@@ -4,10 +4,10 @@ ghost use Rattle.std.specs.Prelude.{◌≡◌, ◌≤◌, ◌+◌, ℕ, List, []
 ghost use Rattle.bgp_msg.specs.Attributes.{attribute_fault, attribute_size, attribute_type, attributes_fault, form_fault, head_size, is_among, rule_fault, rule_of, value_in, value_of};
 ghost use Rattle.bgp_msg.specs.Pieces.{pieces};
 
-use crate::BgpFault;
 use crate::families::{is_reach, is_unreach};
 use crate::paths::is_path;
 use crate::pieces::{behind, front};
+use crate::{Agreed, BgpFault};
 use acct_types::numbers::u16_at;
 
 pub(crate) const ORIGIN: u8 = 1;
@@ -126,14 +126,14 @@ fn type_of(attribute: &[u8]) -> u8
 }
 
 #[tactic(auto, unfolding(crate::specs::Attributes::form_fault))]
-fn form_fault(wide: bool, form: Form, value: &[u8]) -> Option<u8>
+fn form_fault(agreed: Agreed, form: Form, value: &[u8]) -> Option<u8>
     requires { length value.now ≤ 4096 }
-    ensures { result ≡ form_fault wide form value.now }
+    ensures { result ≡ form_fault agreed form value.now }
 {
     let (good, subcode) = match form {
         Form::Origin if value.len() != 1 => (false, 5),
         Form::Origin => (value[0] <= 2, 6),
-        Form::Path => (is_path(wide, value), 11),
+        Form::Path => (is_path(agreed.four_octets, value), 11),
         Form::Exactly(size) => (value.len() == usize::from(size), 5),
         Form::Numbers => (value.len() % 4 == 0, 5),
         Form::Reach => (is_reach(value), 9),
@@ -143,10 +143,10 @@ fn form_fault(wide: bool, form: Form, value: &[u8]) -> Option<u8>
     if good { None } else { Some(subcode) }
 }
 
-fn rule_fault(wide: bool, attribute: &[u8]) -> Option<u8>
+fn rule_fault(agreed: Agreed, attribute: &[u8]) -> Option<u8>
     requires some { 1 ≤ length attribute.now }
     requires short { length attribute.now ≤ 4096 }
-    ensures { result ≡ rule_fault wide attribute.now (rule_of (attribute_type attribute.now)) }
+    ensures { result ≡ rule_fault agreed attribute.now (rule_of (attribute_type attribute.now)) }
 {
     let class = attribute[0] / 64;
     let Some(rule) = rule_of(type_of(attribute)) else {
@@ -155,28 +155,28 @@ fn rule_fault(wide: bool, attribute: &[u8]) -> Option<u8>
     if class != rule.class {
         return Some(4);
     }
-    form_fault(wide, rule.form, value_of(attribute))
+    form_fault(agreed, rule.form, value_of(attribute))
 }
 
 // What is wrong with an attribute, of which is said whether its type came before.
 #[tactic(auto, unfolding(crate::specs::Attributes::attribute_fault))]
-fn attribute_fault(wide: bool, again: bool, attribute: &[u8]) -> Option<u8>
+fn attribute_fault(agreed: Agreed, again: bool, attribute: &[u8]) -> Option<u8>
     requires some { 1 ≤ length attribute.now }
     requires short { length attribute.now ≤ 4096 }
-    ensures { (before : List ℕ) → again ≡ is_among (attribute_type attribute.now) before → result ≡ attribute_fault wide before attribute.now }
+    ensures { (before : List ℕ) → again ≡ is_among (attribute_type attribute.now) before → result ≡ attribute_fault agreed before attribute.now }
 {
     if attribute.len() < attribute_size(attribute) || again {
         return Some(1);
     }
-    rule_fault(wide, attribute)
+    rule_fault(agreed, attribute)
 }
 
 /// What is wrong first with attributes, of which the first stands at this place: subcode 1 of code 3 where one is cut or its type
 /// came before, 2 where its type isn't known and it isn't optional, 4 where its flags aren't those of its type, and what its
 /// form says. An attribute is judged whole before the next one.
-pub(crate) fn attributes_fault(wide: bool, start: u32, octets: &[u8]) -> Option<BgpFault>
+pub(crate) fn attributes_fault(agreed: Agreed, start: u32, octets: &[u8]) -> Option<BgpFault>
     requires { start + length octets.now ≤ 4096 }
-    ensures { result ≡ attributes_fault wide [] start (pieces attribute_size octets.now) }
+    ensures { result ≡ attributes_fault agreed [] start (pieces attribute_size octets.now) }
 {
     let mut seen = [false; 256];
     let mut place = start;
@@ -185,7 +185,7 @@ pub(crate) fn attributes_fault(wide: bool, start: u32, octets: &[u8]) -> Option<
         let size = attribute_size(rest);
         let attribute = front(rest, size);
         let kind = usize::from(type_of(attribute));
-        if let Some(subcode) = attribute_fault(wide, seen[kind], attribute) {
+        if let Some(subcode) = attribute_fault(agreed, seen[kind], attribute) {
             return Some(BgpFault {
                 code: 3,
                 subcode,

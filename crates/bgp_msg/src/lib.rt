@@ -2,6 +2,7 @@
 //! no route.
 #![tactic(auto)]
 
+mod add_path;
 mod attributes;
 mod bmp_fault;
 mod families;
@@ -18,8 +19,11 @@ mod write;
 
 pub use bmp_fault::BmpFault;
 pub use header::frame;
-pub use laws::{a_message_stands_alone, what_follows_changes_nothing, what_is_written_is_read};
-pub use message::{Agreed, BgpFault, BgpMessage, BgpRefusal, Hello};
+pub use laws::{
+    a_message_stands_alone, lists_are_read_as_they_are_spelled, what_follows_changes_nothing,
+    what_is_written_is_read,
+};
+pub use message::{AddPath, Agreed, BgpFault, BgpMessage, BgpRefusal, Hello};
 pub use read::read_message;
 pub use write::{write_keepalive, write_notification, write_open};
 

@@ -22,6 +22,17 @@ pub struct BgpFault {
     pub place: u32,
 }
 
+/// What a speaker does with several paths to a prefix of a family (RFC 7911, 4).
+#[derive(Clone, Copy, Debug, PartialEq, Eq)]
+pub enum AddPath {
+    /// It takes them: the value is 1.
+    Receive,
+    /// It sends them: 2.
+    Send,
+    /// It does both: 3.
+    Both,
+}
+
 /// What an OPEN says (RFC 4271, 4.2).
 #[derive(Clone, Copy, Debug, PartialEq, Eq)]
 pub struct Hello {
@@ -33,10 +44,15 @@ pub struct Hello {
     pub id: u32,
     /// The peer has the capability of four-octet numbers (RFC 6793).
     pub four_octets: bool,
-    /// The peer sends path identifiers for IPv4. That capability isn't read yet, so this is false.
+    /// The prefixes of IPv4 that the peer sends have path identifiers: it sends them, and this side announced that it takes them, which it
+    /// doesn't yet, so this is false.
     pub path_ids_v4: bool,
-    /// The peer sends path identifiers for IPv6. That capability isn't read yet, so this is false.
+    /// Likewise for IPv6.
     pub path_ids_v6: bool,
+    /// The last tuple of unicast IPv4 in its ADD-PATH capabilities, but for those that are passed over (RFC 7911, 4).
+    pub add_path_v4: Option<AddPath>,
+    /// The last tuple of unicast IPv6.
+    pub add_path_v6: Option<AddPath>,
 }
 
 /// A message (RFC 4271, 4).

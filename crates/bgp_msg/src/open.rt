@@ -2,8 +2,11 @@
 
 ghost use Rattle.std.specs.Prelude.{◌≡◌, ◌≤◌, ◌+◌, length, None, true};
 ghost use Rattle.bgp_msg.specs.Frames.{fault};
-ghost use Rattle.bgp_msg.specs.Opens.{are_capabilities, hello_of, is_capability, item_size, items, last_told, open_fault, parameter_fault, parameters_fault, tell_some, tells_some, told_by, told_in};
+ghost use Rattle.bgp_msg.specs.Items.{item_size, items};
+ghost use Rattle.bgp_msg.specs.Opens.{are_capabilities, hello_of, is_capability, last_told, open_fault, parameter_fault, parameters_fault, tell_some, tells_some, told_by, told_in};
 
+use crate::add_path::add_path_in;
+use crate::families::Family;
 use crate::pieces::{behind, front};
 use crate::{BgpFault, Hello};
 use acct_types::numbers::{after, u16_at, u32_at};
@@ -22,9 +25,9 @@ fn fault(subcode: u8, place: u32) -> BgpFault
     }
 }
 
-// The size of the parameter or capability at the front.
-#[tactic(auto, unfolding(crate::specs::Opens::item_size))]
-fn item_size(octets: &[u8]) -> usize
+/// The size of the parameter or capability at the front.
+#[tactic(auto, unfolding(crate::specs::Items::item_size))]
+pub(crate) fn item_size(octets: &[u8]) -> usize
     ensures size { result ≡ item_size octets.now }
     ensures some { 2 ≤ result }
 {
@@ -35,7 +38,7 @@ fn item_size(octets: &[u8]) -> usize
     }
 }
 
-#[tactic(auto, unfolding(crate::specs::Opens::item_size, crate::specs::Opens::is_capability))]
+#[tactic(auto, unfolding(crate::specs::Items::item_size, crate::specs::Opens::is_capability))]
 fn is_capability(capability: &[u8]) -> bool
     ensures { result ≡ is_capability capability.now }
 {
@@ -58,7 +61,7 @@ fn are_capabilities(octets: &[u8]) -> bool
 }
 
 // The autonomous system that a capability tells.
-#[tactic(auto, unfolding(crate::specs::Opens::item_size, crate::specs::Opens::is_capability))]
+#[tactic(auto, unfolding(crate::specs::Items::item_size, crate::specs::Opens::is_capability))]
 fn told_by(capability: &[u8]) -> Option<u32>
     requires { is_capability capability.now ≡ true }
     ensures { result ≡ told_by capability.now }
@@ -70,7 +73,7 @@ fn told_by(capability: &[u8]) -> Option<u32>
     }
 }
 
-#[tactic(auto, unfolding(crate::specs::Opens::item_size, crate::specs::Opens::is_capability, crate::specs::Opens::tells_some))]
+#[tactic(auto, unfolding(crate::specs::Items::item_size, crate::specs::Opens::is_capability, crate::specs::Opens::tells_some))]
 fn tells_some(capability: &[u8]) -> bool
     requires { is_capability capability.now ≡ true }
     ensures { result ≡ tells_some capability.now }
@@ -109,7 +112,7 @@ fn last_told(octets: &[u8]) -> Option<u32>
     told
 }
 
-#[tactic(auto, unfolding(crate::specs::Opens::item_size, crate::specs::Opens::parameter_fault))]
+#[tactic(auto, unfolding(crate::specs::Items::item_size, crate::specs::Opens::parameter_fault))]
 fn parameter_fault(place: u32, parameter: &[u8]) -> Option<BgpFault>
     ensures { result ≡ parameter_fault place parameter.now }
 {
@@ -199,7 +202,8 @@ pub(crate) fn read_open(octets: &[u8]) -> Hello
     requires good { open_fault octets.now ≡ None }
     ensures { result ≡ hello_of octets.now }
 {
-    let told = told_in(after(octets, 29));
+    let parameters = after(octets, 29);
+    let told = told_in(parameters);
     Hello {
         asn: told.unwrap_or(u32::from(u16_at(octets, 20))),
         hold: u16_at(octets, 22),
@@ -207,5 +211,7 @@ pub(crate) fn read_open(octets: &[u8]) -> Hello
         four_octets: told.is_some(),
         path_ids_v4: false,
         path_ids_v6: false,
+        add_path_v4: add_path_in(Family::V4, parameters),
+        add_path_v6: add_path_in(Family::V6, parameters),
     }
 }

@@ -1,5 +1,5 @@
 use crate::tests::{NARROW, Wrong, fault_of, joined, message, read};
-use crate::{BgpMessage, Hello};
+use crate::{AddPath, BgpMessage, Hello};
 use std::test::Fail;
 
 const OPEN: u8 = 1;
@@ -93,15 +93,100 @@ fn parameters_are_judged_in_turn(rt: HostRuntime) -> Result<(), Fail> {
     Ok(())
 }
 
-// System, and whether its numbers have four octets.
-static HELLOS: [(Parameters, u32, bool); 9] = [
-    (&[b"\0"], 64512, false),
-    (&[b"\x02\x02\0"], 64512, false),
-    (&[b"\x10\x02\x0e", OTHERS], 64512, false),
-    (&[b"\x08\x02\x06", SYSTEM_70000], 70000, true),
-    (&[b"\x0e\x02\x0c", SYSTEM_70000, SYSTEM_64512], 64512, true),
-    (&[b"\x0e\x02\x0c", SYSTEM_64512, SYSTEM_70000], 70000, true),
-    (&[b"\x16\x02\x14", SYSTEM_70000, OTHERS], 70000, true),
+// What is done with several paths to a prefix of IPv4 and of IPv6.
+static ADD_PATHS: [(Parameters, Option<AddPath>, Option<AddPath>); 9] = [
+    (
+        &[b"\x08\x02\x06\x45\x04\0\x01\x01\x01"],
+        Some(AddPath::Receive),
+        None,
+    ),
+    (
+        &[b"\x08\x02\x06\x45\x04\0\x02\x01\x02"],
+        None,
+        Some(AddPath::Send),
+    ),
+    (
+        &[b"\x0c\x02\x0a\x45\x08\0\x02\x01\x02\0\x01\x01\x03"],
+        Some(AddPath::Both),
+        Some(AddPath::Send),
+    ),
+    // another subfamily, and another family
+    (
+        &[b"\x0c\x02\x0a\x45\x08\0\x01\x02\x03\0\x03\x01\x03"],
+        None,
+        None,
+    ),
+    // the last tuple counts
+    (
+        &[b"\x0c\x02\x0a\x45\x08\0\x01\x01\x03\0\x01\x01\x01"],
+        Some(AddPath::Receive),
+        None,
+    ),
+    (
+        &[b"\x10\x02\x06\x45\x04\0\x01\x01\x02\x02\x06\x45\x04\0\x01\x01\x03"],
+        Some(AddPath::Both),
+        None,
+    ),
+    // a value that isn't known, and a tuple that is cut: the capability is passed over whole
+    (
+        &[b"\x12\x02\x10\x45\x04\0\x01\x01\x02\x45\x08\0\x01\x01\x01\0\x02\x01\x04"],
+        Some(AddPath::Send),
+        None,
+    ),
+    (&[b"\x08\x02\x06\x45\x04\0\x01\x01\0"], None, None),
+    (&[b"\x09\x02\x07\x45\x05\0\x01\x01\x01\0"], None, None),
+];
+
+#[test]
+fn the_last_tuple_of_a_family_counts(rt: HostRuntime) -> Result<(), Fail> {
+    for (parameters, v4, v6) in &ADD_PATHS {
+        let parameters = joined(rt.alloc(), parameters)?;
+        let octets = message(rt.alloc(), OPEN, &[HEAD, parameters.as_slice()])?;
+        let hello = Hello {
+            asn: 64512,
+            hold: 180,
+            id: 0xc000_0201,
+            four_octets: false,
+            path_ids_v4: false,
+            path_ids_v6: false,
+            add_path_v4: *v4,
+            add_path_v6: *v6,
+        };
+        let said = read(rt.alloc(), octets.as_slice(), &NARROW)?;
+        assert!(rt; said == Ok(BgpMessage::Hello(hello)));
+    }
+    Ok(())
+}
+
+// System, whether its numbers have four octets, and what is done with several paths of IPv4.
+static HELLOS: [(Parameters, u32, bool, Option<AddPath>); 9] = [
+    (&[b"\0"], 64512, false, None),
+    (&[b"\x02\x02\0"], 64512, false, None),
+    (
+        &[b"\x10\x02\x0e", OTHERS],
+        64512,
+        false,
+        Some(AddPath::Both),
+    ),
+    (&[b"\x08\x02\x06", SYSTEM_70000], 70000, true, None),
+    (
+        &[b"\x0e\x02\x0c", SYSTEM_70000, SYSTEM_64512],
+        64512,
+        true,
+        None,
+    ),
+    (
+        &[b"\x0e\x02\x0c", SYSTEM_64512, SYSTEM_70000],
+        70000,
+        true,
+        None,
+    ),
+    (
+        &[b"\x16\x02\x14", SYSTEM_70000, OTHERS],
+        70000,
+        true,
+        Some(AddPath::Both),
+    ),
     (
         &[
             b"\x12\x02\x06",
@@ -111,17 +196,19 @@ static HELLOS: [(Parameters, u32, bool); 9] = [
         ],
         70000,
         true,
+        None,
     ),
     (
         &[b"\x18\x02\x06", SYSTEM_70000, b"\x02\x0e", OTHERS],
         70000,
         true,
+        Some(AddPath::Both),
     ),
 ];
 
 #[test]
 fn the_last_system_counts(rt: HostRuntime) -> Result<(), Fail> {
-    for (parameters, asn, four_octets) in &HELLOS {
+    for (parameters, asn, four_octets, add_path) in &HELLOS {
         let parameters = joined(rt.alloc(), parameters)?;
         let octets = message(rt.alloc(), OPEN, &[HEAD, parameters.as_slice()])?;
         let hello = Hello {
@@ -131,6 +218,8 @@ fn the_last_system_counts(rt: HostRuntime) -> Result<(), Fail> {
             four_octets: *four_octets,
             path_ids_v4: false,
             path_ids_v6: false,
+            add_path_v4: *add_path,
+            add_path_v6: None,
         };
         let said = read(rt.alloc(), octets.as_slice(), &NARROW)?;
         assert!(rt; said == Ok(BgpMessage::Hello(hello)));
@@ -150,6 +239,8 @@ fn a_hold_time_is_none_or_three_seconds_at_least(rt: HostRuntime) -> Result<(), 
             four_octets: false,
             path_ids_v4: false,
             path_ids_v6: false,
+            add_path_v4: None,
+            add_path_v6: None,
         };
         let said = read(rt.alloc(), octets.as_slice(), &NARROW)?;
         assert!(rt; said == Ok(BgpMessage::Hello(hello)));

@@ -25,11 +25,10 @@ pub fn read_message(alloc: Global, octets: &[u8], agreed: &Agreed) -> Result<Bgp
             Ok(BgpMessage::Hello(read_open(octets)))
         }
         UPDATE => {
-            let wide = agreed.four_octets;
-            if let Some(fault) = update_fault(wide, octets) {
+            if let Some(fault) = update_fault(*agreed, octets) {
                 return Err(BgpRefusal::Fault(fault));
             }
-            Ok(BgpMessage::Update(read_update(alloc, wide, octets)?))
+            Ok(BgpMessage::Update(read_update(alloc, *agreed, octets)?))
         }
         NOTIFICATION => Ok(BgpMessage::Notification {
             code: octets[19],

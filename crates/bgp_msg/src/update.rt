@@ -9,7 +9,6 @@ ghost use Rattle.bgp_msg.specs.Prefixes.{bad_prefix, prefixes_in};
 ghost use Rattle.bgp_msg.specs.Updates.{IsNumber, announced_octets, announced_place, attribute_octets, attributes_place, attrs_of, communities_in, lacks, lengths_fault, merged, names_unreached, number_in, origin_in, parts_fault, path_in, prefix_fault, reached_by, routes_behind, routes_reached, said, update_fault, whole_path, withdrawn_octets};
 ghost use Rattle.bgp_msg.specs.declared.families.Family.TheVariants.{V4};
 
-use crate::BgpFault;
 use crate::attributes::{
     AS_PATH, AS4_PATH, COMMUNITIES, LOCAL_PREF, MP_REACH_NLRI, MP_UNREACH_NLRI, MULTI_EXIT_DISC,
     NEXT_HOP, ORIGIN, attributes_fault, value_in,
@@ -17,6 +16,7 @@ use crate::attributes::{
 use crate::families::{Family, reaches_some, read_reached, read_unreached};
 use crate::paths::{append_path, is_path, read_numbers, read_path};
 use crate::prefixes::{bad_prefix, read_prefixes, read_routes};
+use crate::{Agreed, BgpFault};
 use acct_types::numbers::{after, u16_at, u32_at};
 use acct_types::{Addr, Announce, Hop, List, Nlri, NoMemory, RouteAttrs, Update};
 use std::alloc::Global;
@@ -41,8 +41,8 @@ fn prefix_fault(place: Option<u32>) -> Option<BgpFault>
 }
 
 // Whether MP_REACH_NLRI announces a prefix.
-fn has_reached(wide: bool, attributes: &[u8]) -> bool
-    requires { AreFormed wide (pieces attribute_size attributes.now) }
+fn has_reached(agreed: Agreed, attributes: &[u8]) -> bool
+    requires { AreFormed agreed (pieces attribute_size attributes.now) }
     ensures { result ≡ not (length (reached_by (value_in 14 (pieces attribute_size attributes.now))) == 0) }
 {
     match value_in(MP_REACH_NLRI, attributes) {
@@ -58,11 +58,11 @@ fn has(kind: u8, attributes: &[u8]) -> bool
 }
 
 #[tactic(auto, unfolding(crate::specs::Updates::lacks))]
-fn lacks(wide: bool, attributes: &[u8], behind: bool) -> bool
-    requires { AreFormed wide (pieces attribute_size attributes.now) }
+fn lacks(agreed: Agreed, attributes: &[u8], behind: bool) -> bool
+    requires { AreFormed agreed (pieces attribute_size attributes.now) }
     ensures { result ≡ lacks (pieces attribute_size attributes.now) behind }
 {
-    (behind || has_reached(wide, attributes))
+    (behind || has_reached(agreed, attributes))
         && (!has(ORIGIN, attributes) || !has(AS_PATH, attributes))
         || behind && !has(NEXT_HOP, attributes)
 }
@@ -130,18 +130,18 @@ fn announced_place(octets: &[u8]) -> usize
 
 // What is wrong first with the parts.
 #[tactic(auto, unfolding(crate::specs::Updates::parts_fault))]
-fn parts_fault(wide: bool, octets: &[u8]) -> Option<BgpFault>
+fn parts_fault(agreed: Agreed, octets: &[u8]) -> Option<BgpFault>
     requires whole { 23 ≤ length octets.now }
     requires short { length octets.now ≤ 4096 }
     requires good { lengths_fault octets.now ≡ None }
-    ensures { result ≡ parts_fault wide (withdrawn_octets octets.now) (attributes_place octets.now) (attribute_octets octets.now) (announced_place octets.now) (announced_octets octets.now) }
+    ensures { result ≡ parts_fault agreed (withdrawn_octets octets.now) (attributes_place octets.now) (attribute_octets octets.now) (announced_place octets.now) (announced_octets octets.now) }
 {
     let withdrawn = prefix_fault(bad_prefix(Family::V4, 21, withdrawn(octets)));
     if withdrawn.is_some() {
         return withdrawn;
     }
     let attributes = attributes(octets);
-    let in_attributes = attributes_fault(wide, attributes_place(octets) as u32, attributes);
+    let in_attributes = attributes_fault(agreed, attributes_place(octets) as u32, attributes);
     if in_attributes.is_some() {
         return in_attributes;
     }
@@ -151,7 +151,7 @@ fn parts_fault(wide: bool, octets: &[u8]) -> Option<BgpFault>
     if in_announced.is_some() {
         return in_announced;
     }
-    if lacks(wide, attributes, !announced.is_empty()) {
+    if lacks(agreed, attributes, !announced.is_empty()) {
         return Some(fault(3, 19));
     }
     None
@@ -160,20 +160,20 @@ fn parts_fault(wide: bool, octets: &[u8]) -> Option<BgpFault>
 /// What is wrong with an UPDATE, first: subcode 1 of code 3 where a length passes the end, 10 where a withdrawn prefix is too long or
 /// cut, what `attributes_fault` says, 10 for an announced prefix, and 3 where announced prefixes lack ORIGIN, AS_PATH or
 /// NEXT_HOP.
-pub(crate) fn update_fault(wide: bool, octets: &[u8]) -> Option<BgpFault>
+pub(crate) fn update_fault(agreed: Agreed, octets: &[u8]) -> Option<BgpFault>
     requires whole { 23 ≤ length octets.now }
     requires short { length octets.now ≤ 4096 }
-    ensures { result ≡ update_fault wide octets.now }
+    ensures { result ≡ update_fault agreed octets.now }
 {
     let lengths = lengths_fault(octets);
     if lengths.is_some() {
         return lengths;
     }
-    parts_fault(wide, octets)
+    parts_fault(agreed, octets)
 }
 
-fn origin_in(wide: bool, attributes: &[u8]) -> u8
-    requires { AreFormed wide (pieces attribute_size attributes.now) }
+fn origin_in(agreed: Agreed, attributes: &[u8]) -> u8
+    requires { AreFormed agreed (pieces attribute_size attributes.now) }
     ensures { result ≡ origin_in (value_in 1 (pieces attribute_size attributes.now)) }
 {
     match value_in(ORIGIN, attributes) {
@@ -182,8 +182,8 @@ fn origin_in(wide: bool, attributes: &[u8]) -> u8
     }
 }
 
-fn number_in(wide: bool, kind: u8, attributes: &[u8]) -> Option<u32>
-    requires formed { AreFormed wide (pieces attribute_size attributes.now) }
+fn number_in(agreed: Agreed, kind: u8, attributes: &[u8]) -> Option<u32>
+    requires formed { AreFormed agreed (pieces attribute_size attributes.now) }
     requires kind { IsNumber kind }
     ensures { result ≡ number_in (value_in kind (pieces attribute_size attributes.now)) }
 {
@@ -193,8 +193,8 @@ fn number_in(wide: bool, kind: u8, attributes: &[u8]) -> Option<u32>
     }
 }
 
-fn communities_in(alloc: Global, wide: bool, attributes: &[u8]) -> Result<List<u32>, NoMemory>
-    requires { AreFormed wide (pieces attribute_size attributes.now) }
+fn communities_in(alloc: Global, agreed: Agreed, attributes: &[u8]) -> Result<List<u32>, NoMemory>
+    requires { AreFormed agreed (pieces attribute_size attributes.now) }
     ensures { IfOk result (λ numbers. numbers ≡ communities_in (value_in 8 (pieces attribute_size attributes.now))) }
 {
     match value_in(COMMUNITIES, attributes) {
@@ -203,12 +203,12 @@ fn communities_in(alloc: Global, wide: bool, attributes: &[u8]) -> Result<List<u
     }
 }
 
-fn path_in(alloc: Global, wide: bool, attributes: &[u8]) -> Result<List<Hop>, NoMemory>
-    requires { AreFormed wide (pieces attribute_size attributes.now) }
-    ensures { IfOk result (λ hops. hops ≡ path_in wide (value_in 2 (pieces attribute_size attributes.now))) }
+fn path_in(alloc: Global, agreed: Agreed, attributes: &[u8]) -> Result<List<Hop>, NoMemory>
+    requires { AreFormed agreed (pieces attribute_size attributes.now) }
+    ensures { IfOk result (λ hops. hops ≡ path_in agreed.four_octets (value_in 2 (pieces attribute_size attributes.now))) }
 {
     match value_in(AS_PATH, attributes) {
-        Some(value) => read_path(alloc, wide, value),
+        Some(value) => read_path(alloc, agreed.four_octets, value),
         None => Ok(List::new(alloc)),
     }
 }
@@ -234,29 +234,29 @@ fn merged(alloc: Global, path: List<Hop>, attributes: &[u8]) -> Result<List<Hop>
     Ok(hops)
 }
 
-fn whole_path(alloc: Global, wide: bool, attributes: &[u8]) -> Result<List<Hop>, NoMemory>
-    requires { AreFormed wide (pieces attribute_size attributes.now) }
-    ensures { IfOk result (λ hops. hops ≡ whole_path wide (pieces attribute_size attributes.now)) }
+fn whole_path(alloc: Global, agreed: Agreed, attributes: &[u8]) -> Result<List<Hop>, NoMemory>
+    requires { AreFormed agreed (pieces attribute_size attributes.now) }
+    ensures { IfOk result (λ hops. hops ≡ whole_path agreed (pieces attribute_size attributes.now)) }
 {
-    let path = path_in(alloc, wide, attributes)?;
-    if wide {
+    let path = path_in(alloc, agreed, attributes)?;
+    if agreed.four_octets {
         return Ok(path);
     }
     merged(alloc, path, attributes)
 }
 
 #[tactic(auto, unfolding(crate::specs::Updates::attrs_of))]
-fn attrs_of(alloc: Global, wide: bool, attributes: &[u8]) -> Result<RouteAttrs, NoMemory>
-    requires { AreFormed wide (pieces attribute_size attributes.now) }
-    ensures { IfOk result (λ attrs. attrs ≡ attrs_of wide (pieces attribute_size attributes.now)) }
+fn attrs_of(alloc: Global, agreed: Agreed, attributes: &[u8]) -> Result<RouteAttrs, NoMemory>
+    requires { AreFormed agreed (pieces attribute_size attributes.now) }
+    ensures { IfOk result (λ attrs. attrs ≡ attrs_of agreed (pieces attribute_size attributes.now)) }
 {
-    let path = whole_path(alloc, wide, attributes)?;
-    let communities = communities_in(alloc, wide, attributes)?;
+    let path = whole_path(alloc, agreed, attributes)?;
+    let communities = communities_in(alloc, agreed, attributes)?;
     Ok(RouteAttrs {
-        origin: origin_in(wide, attributes),
+        origin: origin_in(agreed, attributes),
         path,
-        med: number_in(wide, MULTI_EXIT_DISC, attributes),
-        local_pref: number_in(wide, LOCAL_PREF, attributes),
+        med: number_in(agreed, MULTI_EXIT_DISC, attributes),
+        local_pref: number_in(agreed, LOCAL_PREF, attributes),
         communities,
     })
 }
@@ -264,11 +264,11 @@ fn attrs_of(alloc: Global, wide: bool, attributes: &[u8]) -> Result<RouteAttrs, 
 // The prefixes that are withdrawn in these octets, and by the attributes.
 fn withdrawn_in(
     alloc: Global,
-    wide: bool,
+    agreed: Agreed,
     octets: &[u8],
     attributes: &[u8],
 ) -> Result<List<Nlri>, NoMemory>
-    requires formed { AreFormed wide (pieces attribute_size attributes.now) }
+    requires formed { AreFormed agreed (pieces attribute_size attributes.now) }
     requires good { bad_prefix V4 0 octets.now ≡ None }
     ensures { IfOk result (λ names. map nlri_view names ≡ prefixes_in V4 octets.now ++ names_unreached (value_in 15 (pieces attribute_size attributes.now))) }
 {
@@ -282,16 +282,16 @@ fn withdrawn_in(
 
 // Appends the routes to the prefixes behind the attributes.
 fn read_behind(
-    wide: bool,
+    agreed: Agreed,
     octets: &[u8],
     attributes: &[u8],
     announced: &mut List<Announce>,
 ) -> Result<(), NoMemory>
-    requires formed { AreFormed wide (pieces attribute_size attributes.now) }
+    requires formed { AreFormed agreed (pieces attribute_size attributes.now) }
     requires good { bad_prefix V4 0 octets.now ≡ None }
     ensures { OnOk result (map route_view announced.new ≡ map route_view announced.old ++ routes_behind (value_in 3 (pieces attribute_size attributes.now)) octets.now) }
 {
-    let Some(hop) = number_in(wide, NEXT_HOP, attributes) else {
+    let Some(hop) = number_in(agreed, NEXT_HOP, attributes) else {
         return Ok(());
     };
     read_routes(Family::V4, Addr::V4(hop), octets, announced)
@@ -299,11 +299,11 @@ fn read_behind(
 
 // Appends the routes of MP_REACH_NLRI.
 fn read_multiprotocol(
-    wide: bool,
+    agreed: Agreed,
     attributes: &[u8],
     announced: &mut List<Announce>,
 ) -> Result<(), NoMemory>
-    requires { AreFormed wide (pieces attribute_size attributes.now) }
+    requires { AreFormed agreed (pieces attribute_size attributes.now) }
     ensures { OnOk result (map route_view announced.new ≡ map route_view announced.old ++ routes_reached (value_in 14 (pieces attribute_size attributes.now))) }
 {
     let Some(value) = value_in(MP_REACH_NLRI, attributes) else {
@@ -314,18 +314,18 @@ fn read_multiprotocol(
 
 /// What an UPDATE without a fault says.
 #[tactic(auto, unfolding(crate::specs::Updates::said))]
-pub(crate) fn read_update(alloc: Global, wide: bool, octets: &[u8]) -> Result<Update, NoMemory>
+pub(crate) fn read_update(alloc: Global, agreed: Agreed, octets: &[u8]) -> Result<Update, NoMemory>
     requires whole { 23 ≤ length octets.now }
-    requires good { update_fault wide octets.now ≡ None }
-    ensures { IfOk result (λ update. update_view update ≡ said wide octets.now) }
+    requires good { update_fault agreed octets.now ≡ None }
+    ensures { IfOk result (λ update. update_view update ≡ said agreed octets.now) }
 {
     let attributes = attributes(octets);
-    let attrs = attrs_of(alloc, wide, attributes)?;
-    let withdrawn = withdrawn_in(alloc, wide, withdrawn(octets), attributes)?;
+    let attrs = attrs_of(alloc, agreed, attributes)?;
+    let withdrawn = withdrawn_in(alloc, agreed, withdrawn(octets), attributes)?;
     let mut announced = List::new(alloc);
     let behind = after(octets, announced_place(octets));
-    read_behind(wide, behind, attributes, &mut announced)?;
-    read_multiprotocol(wide, attributes, &mut announced)?;
+    read_behind(agreed, behind, attributes, &mut announced)?;
+    read_multiprotocol(agreed, attributes, &mut announced)?;
     Ok(Update {
         withdrawn,
         announced,

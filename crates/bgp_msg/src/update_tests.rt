@@ -360,6 +360,15 @@ fn attributes_line(alloc: Global, update: &Update) -> Result<Octets, NoMemory> {
     Ok(line)
 }
 
+// What a whole UPDATE says.
+fn update_in(alloc: Global, octets: &[u8], agreed: &Agreed) -> Result<Update, Fail> {
+    match read(alloc, octets, agreed)? {
+        Ok(BgpMessage::Update(update)) => Ok(update),
+        Ok(_) => Err("not an UPDATE".into()),
+        Err(_) => Err("refused".into()),
+    }
+}
+
 // What an UPDATE of these parts says.
 fn update_of(
     alloc: Global,
@@ -370,11 +379,7 @@ fn update_of(
 ) -> Result<Update, Fail> {
     let body = body_of(alloc, withdrawn, attributes, announced)?;
     let octets = message(alloc, UPDATE, &[body.as_slice()])?;
-    match read(alloc, octets.as_slice(), agreed)? {
-        Ok(BgpMessage::Update(update)) => Ok(update),
-        Ok(_) => Err("not an UPDATE".into()),
-        Err(_) => Err("refused".into()),
-    }
+    update_in(alloc, octets.as_slice(), agreed)
 }
 
 // Withdrawn prefixes, attributes, announced prefixes, and what they say of prefixes.
@@ -614,6 +619,37 @@ fn a_path_of_long_numbers_stands(rt: HostRuntime) -> Result<(), Fail> {
         let mut path = Octets::new(rt.alloc());
         update.attrs.append_path_text(&mut path)?;
         assert_eq!(rt; path.as_slice(), *wanted);
+    }
+    Ok(())
+}
+
+// Whole messages but for their marker: 10.0.0.0/8 by 192.0.2.9, with the path 64512 23456 and AS4_PATH 131072; with the path 64512 64513;
+// and with ATOMIC_AGGREGATE besides.
+const MERGED: &[u8] = b"\0\x36\x02\0\0\0\x1d\x40\x01\x01\0\x40\x02\x06\x02\x02\xfc\0\x5b\xa0\
+\x40\x03\x04\xc0\0\x02\x09\xc0\x11\x06\x02\x01\0\x02\0\0\x08\x0a";
+
+const PLAIN: &[u8] = b"\0\x31\x02\0\0\0\x18\x40\x01\x01\0\x40\x02\x0a\x02\x02\0\0\xfc\0\0\0\xfc\x01\
+\x40\x03\x04\xc0\0\x02\x09\x08\x0a";
+
+const AGGREGATED: &[u8] =
+    b"\0\x34\x02\0\0\0\x1b\x40\x01\x01\0\x40\x02\x0a\x02\x02\0\0\xfc\0\0\0\xfc\x01\
+\x40\x03\x04\xc0\0\x02\x09\x40\x06\0\x08\x0a";
+
+static WHOLE: [(&'static [u8], Agreed, &'static [u8]); 3] = [
+    (MERGED, NARROW, b"0 64512_131072 - - "),
+    (PLAIN, WIDE, b"0 64512_64513 - - "),
+    (AGGREGATED, WIDE, b"0 64512_64513 - - "),
+];
+
+#[test]
+fn what_whole_messages_say(rt: HostRuntime) -> Result<(), Fail> {
+    for (octets, agreed, wanted) in &WHOLE {
+        let octets = joined(rt.alloc(), &[&[255; 16], octets])?;
+        let update = update_in(rt.alloc(), octets.as_slice(), agreed)?;
+        let attributes = attributes_line(rt.alloc(), &update)?;
+        assert_eq!(rt; attributes.as_slice(), *wanted);
+        let prefixes = prefixes_line(rt.alloc(), &update)?;
+        assert_eq!(rt; prefixes.as_slice(), b"+10.0.0.0/8>192.0.2.9 ".as_slice());
     }
     Ok(())
 }

@@ -1,27 +1,9 @@
 -- A message of which not all octets have come.
 use Rattle.std.proofs.Common.{◌≡◌, ◌≤◌, ◌<◌, ◌+◌, ◌++◌, ℕ, false, true, List, length, refl, length-append, max, arith}
 use Rattle.std.proofs.lemmas.Bool.{ltb-true, ltb-false}
-use Rattle.std.specs.Prelude.{Bool, Option, Some, None, Result, Ok, Err, is_none, nat_lt}
+use Rattle.std.specs.Prelude.{Bool, Some, None, Ok, nat_lt}
 use Rattle.bgp_msg.specs.Frames.{framed, length_of}
-use Rattle.bgp_msg.specs.declared.message.BgpFault.{BgpFault}
-use Rattle.bgp_session.specs.Begun.{needs_more}
-use Rattle.bgp_session.proofs.FrameLemmas.{is_framed, is_partial, length_front}
-
-pub partial : (begun : List ℕ) → needs_more begun ≡ true → framed begun ≡ Ok None
-partial begun h = by (framed begun) h
-  where
-    by : (found : Result (Option ℕ) BgpFault) → (elim found [ Ok size ↦ is_none size | Err fault ↦ false ]) ≡ true → found ≡ Ok None
-    by (Ok None) h = refl
-    by (Ok (Some size)) h = absurd (cc)
-    by (Err fault) h = absurd (cc)
-
--- it has no octet of the message behind it
-pub within : (begun : List ℕ) → framed begun ≡ Ok None → length begun ≤ max 19 (length_of begun)
-within begun is = by (nat_lt (length begun) 19) refl
-  where
-    by : (short : Bool) → nat_lt (length begun) 19 ≡ short → length begun ≤ max 19 (length_of begun)
-    by true s = let few = ltb-true (length begun) 19 s in omega (arith, few)
-    by false s = let less = (is_partial begun is).part (ltb-false (length begun) 19 s) in omega (arith, less)
+use Rattle.bgp_session.proofs.FrameLemmas.{is_framed, length_front}
 
 pub within_more : (begun front : List ℕ) (want : ℕ) → framed begun ≡ Ok None → length front ≤ want → (length begun < 19 → length begun + want ≡ 19)
     → (19 ≤ length begun → length begun + want ≡ length_of begun) → length (begun ++ front) ≤ max 19 (length_of (begun ++ front))

@@ -1,5 +1,5 @@
 -- A header says the same whatever follows it.
-use Rattle.std.proofs.Common.{◌≡◌, ◌≤◌, ◌<◌, ◌+◌, ◌∙◌, ◌++◌, ℕ, false, true, List, length, take, drop, refl, sym, ap, length-append, length-drop, arith}
+use Rattle.std.proofs.Common.{◌≡◌, ◌≤◌, ◌<◌, ◌+◌, ◌∙◌, ◌++◌, [], ℕ, false, true, List, length, take, drop, refl, sym, ap, length-append, length-drop, arith}
 use Rattle.std.proofs.lemmas.Bool.{le-ltb, lt-ltb, ltb-true, ltb-false}
 use Rattle.std.proofs.lemmas.Bool.Decides.{nat_tests}
 use Rattle.std.proofs.lemmas.List.{drop-append-le, get_or_append_left, take-append-le, take-append-drop, length-take-le}
@@ -9,6 +9,7 @@ use Rattle.byteorder.specs.Endian.{big_from}
 use Rattle.byteorder.specs.Numbers.{big_from-take}
 use Rattle.bgp_msg.specs.Frames.{framed, header_fault, length_of, whole}
 use Rattle.bgp_msg.specs.declared.message.BgpFault.{BgpFault}
+use Rattle.framed_pieces.specs.Framing.{IsFraming}
 
 number_front : (a b : List ℕ) (place width : ℕ) → place + width ≤ length a → number_at (a ++ b) place width ≡ number_at a place width
 unfolding number_at
@@ -178,3 +179,13 @@ unfolding framed
 framed_short octets few =
     let short : nat_lt (length octets) 19 ≡ true = lt-ltb (length octets) 19 few in
     rw short refl
+
+-- messages are framed by their headers
+pub by_headers : IsFraming framed
+by_headers = record {
+  nothing = framed_short [] (omega arith);
+  some = λ octets size is. (let least = (is_framed octets size is).least in omega (arith, least), (is_framed octets size is).here);
+  alone = λ octets size is. framed_alone octets size is ∙ ap (λ (n : ℕ). Ok (Some n)) (length-take-le size octets (is_framed octets size is).here);
+  before = framed_more;
+  bad = framed_bad;
+}

@@ -65,7 +65,7 @@ steps_append local progress reason (message ∷ all) others live =
 steps_spoken : (local : Local) (progress : Progress) (all : List (List ℕ)) → (steps local progress None all).closed ≡ None → (steps local progress None all).spoken ≡ length (join all)
 steps_spoken local progress [] live = refl
 steps_spoken local progress (message ∷ others) live =
-    by (steps_spoken local (step local progress message).progress others) (end_at progress.stage progress.wide message) refl
+    by (steps_spoken local (step local progress message).progress others) (end_at progress.stage progress.agreed message) refl
   where
     one : Outcome
     one = step local progress message
@@ -73,7 +73,7 @@ steps_spoken local progress (message ∷ others) live =
     later : Outcome
     later = steps local one.progress None others
 
-    by : (later.closed ≡ None → later.spoken ≡ length (join others)) → (found : Option Why) → end_at progress.stage progress.wide message ≡ found
+    by : (later.closed ≡ None → later.spoken ≡ length (join others)) → (found : Option Why) → end_at progress.stage progress.agreed message ≡ found
         → (steps local progress None (message ∷ others)).spoken ≡ length (message ++ join others)
     by rest (Some found) e =
         let is = step_is local progress message (Some found) e in
@@ -123,7 +123,7 @@ longer local progress a b part some = by (framed (a ++ b)) refl
     by : (found : Result (Option ℕ) BgpFault) → framed (a ++ b) ≡ found → length a < (outcome local progress (a ++ b)).spoken
     by (Ok None) e = absurd (some (ap (λ (o : Outcome). o.spoken) (outcome_none local progress (a ++ b) e)))
     by (Err fault) e = absurd (some (ap (λ (o : Outcome). o.spoken) (outcome_bad local progress (a ++ b) fault e)))
-    by (Ok (Some size)) e = by_end (end_at progress.stage progress.wide message) refl
+    by (Ok (Some size)) e = by_end (end_at progress.stage progress.agreed message) refl
       where
         message : List ℕ
         message = take size (a ++ b)
@@ -134,7 +134,7 @@ longer local progress a b part some = by (framed (a ++ b)) refl
         later : Outcome
         later = outcome local one.progress (drop size (a ++ b))
 
-        by_end : (found : Option Why) → end_at progress.stage progress.wide message ≡ found → length a < (outcome local progress (a ++ b)).spoken
+        by_end : (found : Option Why) → end_at progress.stage progress.agreed message ≡ found → length a < (outcome local progress (a ++ b)).spoken
         by_end (Some found) f =
             let is = step_is local progress message (Some found) f in
             let over : one.closed ≡ Some found = ap (λ (o : Outcome). o.closed) is in
@@ -145,6 +145,6 @@ longer local progress a b part some = by (framed (a ++ b)) refl
             let all : (outcome local progress (a ++ b)).spoken ≡ length message + later.spoken =
             ap (λ (o : Outcome). o.spoken) (outcome_next local progress (a ++ b) size e ∙ first_goes_on one later (none_of one.closed on))
             ∙ ap (λ (n : ℕ). n + later.spoken) (ap (λ (o : Outcome). o.spoken) is) in
-            let wide : length message ≡ size = length-take-le size (a ++ b) (is_framed (a ++ b) size e).here in
+            let long : length message ≡ size = length-take-le size (a ++ b) (is_framed (a ++ b) size e).here in
             let more = longer_than_part a b size part e in
-            omega (arith, all, wide, more)
+            omega (arith, all, long, more)

@@ -5,11 +5,12 @@ use Rattle.std.proofs.lemmas.Bool.Decides.{nat_tests}
 use Rattle.std.proofs.lemmas.List.{drop-append-le, take-append-le}
 use Rattle.std.specs.Prelude.{Bool, Option, Some, None, Result, Ok, Err, ◌⊎◌, is_some, ◌==◌, if◌then◌else◌}
 use Rattle.bgp_msg.specs.Frames.{framed, kind_of}
+use Rattle.bgp_msg.specs.declared.message.Agreed.{Agreed}
 use Rattle.bgp_msg.specs.declared.message.BgpFault.{BgpFault}
 use Rattle.bgp_session.specs.Laws.{AreEstablished, AreInOrder, ComeTogether, Grows, IsOver, StandAlike}
-use Rattle.bgp_session.specs.Lives.{closed_by, end_at, fits, heard, heard_from, hold_of, is_wide, stage_of}
-use Rattle.bgp_session.specs.Moments.{Piece, joined, moment_of, spoken_by}
-use Rattle.bgp_session.specs.Sessions.{HasHeard, SessionState}
+use Rattle.bgp_session.specs.Lives.{closed_by, end_at, fits, heard, heard_from, hold_of, agreed_in, stage_of}
+use Rattle.bgp_session.specs.Moments.{Piece, is_expired, joined, moment_of, spoken_by}
+use Rattle.bgp_session.specs.Sessions.{Keeps, SessionState, has_expired}
 use Rattle.bgp_session.specs.Steps.{Outcome, kept, onward, outcome, step}
 use Rattle.bgp_session.specs.Stream.{messages, rest_of}
 use Rattle.bgp_session.specs.declared.progress.Local.{Local}
@@ -30,34 +31,34 @@ either kind h = by (kind == 4) refl
     by true e = inl (eqb-true kind 4 e)
     by false e = inr (grind (arith, nat_tests, h, e))
 
-are_established : (wide : Bool) (all : List (List ℕ)) → AreEstablished (heard_from Established wide all)
-are_established wide [] = tt
-are_established wide (message ∷ others) = by (are_established wide others) (end_at Established wide message) refl
+are_established : (agreed : Agreed) (all : List (List ℕ)) → AreEstablished (heard_from Established agreed all)
+are_established agreed [] = tt
+are_established agreed (message ∷ others) = by (are_established agreed others) (end_at Established agreed message) refl
   where
-    by : AreEstablished (heard_from Established wide others) → (found : Option Why) → end_at Established wide message ≡ found
-        → AreEstablished (if is_some found then [] else message ∷ heard_from Established wide others)
+    by : AreEstablished (heard_from Established agreed others) → (found : Option Why) → end_at Established agreed message ≡ found
+        → AreEstablished (if is_some found then [] else message ∷ heard_from Established agreed others)
     by rest (Some reason) e = tt
-    by rest None e = (either (kind_of message) (awaited Established wide message e), rest)
+    by rest None e = (either (kind_of message) (awaited Established agreed message e), rest)
 
-keepalive_next : (wide : Bool) (open_message : List ℕ) (all : List (List ℕ)) → kind_of open_message ≡ 1 → AreInOrder (open_message ∷ heard_from AwaitsKeepalive wide all)
-keepalive_next wide open_message [] h = h
-keepalive_next wide open_message (message ∷ others) h = by (end_at AwaitsKeepalive wide message) refl
+keepalive_next : (agreed : Agreed) (open_message : List ℕ) (all : List (List ℕ)) → kind_of open_message ≡ 1 → AreInOrder (open_message ∷ heard_from AwaitsKeepalive agreed all)
+keepalive_next agreed open_message [] h = h
+keepalive_next agreed open_message (message ∷ others) h = by (end_at AwaitsKeepalive agreed message) refl
   where
-    by : (found : Option Why) → end_at AwaitsKeepalive wide message ≡ found → AreInOrder (open_message ∷ (if is_some found then [] else message ∷ heard_from Established wide others))
+    by : (found : Option Why) → end_at AwaitsKeepalive agreed message ≡ found → AreInOrder (open_message ∷ (if is_some found then [] else message ∷ heard_from Established agreed others))
     by (Some reason) e = h
-    by None e = (h, eqb-true (kind_of message) 4 (awaited AwaitsKeepalive wide message e), are_established wide others)
+    by None e = (h, eqb-true (kind_of message) 4 (awaited AwaitsKeepalive agreed message e), are_established agreed others)
 
-open_first : (wide : Bool) (all : List (List ℕ)) → AreInOrder (heard_from AwaitsOpen wide all)
-open_first wide [] = tt
-open_first wide (message ∷ others) = by (end_at AwaitsOpen wide message) refl
+open_first : (agreed : Agreed) (all : List (List ℕ)) → AreInOrder (heard_from AwaitsOpen agreed all)
+open_first agreed [] = tt
+open_first agreed (message ∷ others) = by (end_at AwaitsOpen agreed message) refl
   where
-    by : (found : Option Why) → end_at AwaitsOpen wide message ≡ found → AreInOrder (if is_some found then [] else message ∷ heard_from AwaitsKeepalive wide others)
+    by : (found : Option Why) → end_at AwaitsOpen agreed message ≡ found → AreInOrder (if is_some found then [] else message ∷ heard_from AwaitsKeepalive agreed others)
     by (Some reason) e = tt
-    by None e = keepalive_next wide message others (eqb-true (kind_of message) 1 (awaited AwaitsOpen wide message e))
+    by None e = keepalive_next agreed message others (eqb-true (kind_of message) 1 (awaited AwaitsOpen agreed message e))
 
 pub in_order : (octets : List ℕ) → AreInOrder (heard octets)
 unfolding heard
-in_order octets = open_first (is_wide (messages octets)) (messages octets)
+in_order octets = open_first (agreed_in (messages octets)) (messages octets)
 
 -- ---- what follows
 
@@ -127,16 +128,34 @@ is_over local octets more reason over =
 
 -- ---- pieces
 
-pub alike : (one other : SessionState) (pieces others : List Piece) → HasHeard one pieces → HasHeard other others → one.local ≡ other.local → joined pieces ≡ joined others → StandAlike one other
+pub alike : (one other : SessionState) (pieces others : List Piece) → Keeps one pieces → Keeps other others → one.local ≡ other.local → joined pieces ≡ joined others → StandAlike one other
+unfolding StandAlike
 alike one other pieces others h k local same =
     let stage = h.stage ∙ ap stage_of same ∙ sym k.stage in
-    let wide = h.wide ∙ ap (λ (octets : List ℕ). is_wide (heard octets)) same ∙ sym k.wide in
+    let agreed = h.agreed ∙ ap (λ (octets : List ℕ). agreed_in (heard octets)) same ∙ sym k.agreed in
     let hold = h.hold ∙ ap (λ (l : Local). hold_of l (joined pieces)) local ∙ ap (hold_of other.local) same ∙ sym k.hold in
     record {
-      progress = λ i. record { stage = stage i; wide = wide i; hold = hold i };
+      progress = λ i. record { stage = stage i; agreed = agreed i; hold = hold i };
       begun = h.begun ∙ ap (λ (octets : List ℕ). kept (closed_by octets) (rest_of octets)) same ∙ sym k.begun;
     }
 
-pub same_last : (one other : SessionState) (pieces others : List Piece) → HasHeard one pieces → HasHeard other others → joined pieces ≡ joined others → ComeTogether pieces others → one.last ≡ other.last
+same_last : (one other : SessionState) (pieces others : List Piece) → Keeps one pieces → Keeps other others → joined pieces ≡ joined others → ComeTogether pieces others → one.last ≡ other.last
 same_last one other pieces others h k same together =
     h.last ∙ together (spoken_by (joined pieces)) ∙ ap (λ (octets : List ℕ). moment_of (spoken_by octets) others) same ∙ sym k.last
+
+pub expire : (one other : SessionState) (pieces others : List Piece) → Keeps one pieces → Keeps other others → one.local ≡ other.local → joined pieces ≡ joined others → ComeTogether pieces others
+    → (moment : ℕ) → has_expired one moment ≡ has_expired other moment
+unfolding has_expired StandAlike
+expire one other pieces others h k local same together moment =
+    let both = alike one other pieces others h k local same in
+    ap (λ (p : Progress). is_expired p.hold one.last moment) both.progress ∙ ap (λ (last : ℕ). is_expired other.progress.hold last moment) (same_last one other pieces others h k same together)
+
+-- what is kept is by the octets and their moments alone
+pub recut : (session : SessionState) (pieces others : List Piece) → Keeps session pieces → joined pieces ≡ joined others → ComeTogether pieces others → Keeps session others
+recut session pieces others h same together = record {
+  stage = h.stage ∙ ap stage_of same;
+  agreed = h.agreed ∙ ap (λ (octets : List ℕ). agreed_in (heard octets)) same;
+  hold = h.hold ∙ ap (hold_of session.local) same;
+  last = h.last ∙ together (spoken_by (joined pieces)) ∙ ap (λ (octets : List ℕ). moment_of (spoken_by octets) others) same;
+  begun = h.begun ∙ ap (λ (octets : List ℕ). kept (closed_by octets) (rest_of octets)) same;
+}

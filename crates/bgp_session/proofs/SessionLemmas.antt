@@ -6,7 +6,7 @@ use Rattle.std.specs.Prelude.{Bool, Option, Some, None, Ok, is_none, is_some, no
 use Rattle.bgp_msg.specs.Frames.{framed}
 use Rattle.bgp_session.specs.Lives.{closed_by, end_at, heard, hold_of, next, stage_behind, stage_of}
 use Rattle.bgp_session.specs.Moments.{Piece, expired_at, is_expired, joined, last_heard, moment_of, spoken_by}
-use Rattle.bgp_session.specs.Sessions.{HasHeard, SessionState, is_live, is_over}
+use Rattle.bgp_session.specs.Sessions.{Keeps, SessionState, has_expired, is_live, is_over}
 use Rattle.bgp_session.specs.Steps.{Outcome, behind, kept, onward, outcome, steps}
 use Rattle.bgp_session.specs.Stream.{header_end, messages, rest_of}
 use Rattle.bgp_session.specs.declared.progress.Local.{Local}
@@ -14,6 +14,7 @@ use Rattle.bgp_session.specs.declared.progress.Progress.{Progress}
 use Rattle.bgp_session.specs.declared.progress.Stage.{Stage}
 use Rattle.bgp_session.specs.declared.progress.Stage.TheVariants.{AwaitsOpen, AwaitsKeepalive, Established, Closed}
 use Rattle.bgp_session.specs.declared.why.Why.{Why}
+use Rattle.framed_pieces.specs.Stream.{messages as framed_messages, rest_of as framed_rest}
 use Rattle.bgp_session.proofs.JoinLemmas.{continues, longer}
 use Rattle.bgp_session.proofs.FrameLemmas.{framed_short}
 use Rattle.bgp_session.proofs.LifeLemmas.{life, life_of, start, step_is}
@@ -33,10 +34,12 @@ stage_live octets = by (closed_by octets)
     by None = rw (not_over (heard octets)) refl
     by (Some reason) = refl
 
-pub live_by : (session : SessionState) (pieces : List Piece) → HasHeard session pieces → is_live session ≡ is_none (closed_by (joined pieces))
+pub live_by : (session : SessionState) (pieces : List Piece) → Keeps session pieces → is_live session ≡ is_none (closed_by (joined pieces))
+unfolding is_live
 live_by session pieces h = ap (λ (stage : Stage). not (is_over stage)) h.stage ∙ stage_live (joined pieces)
 
-pub expired_by : (session : SessionState) (pieces : List Piece) (moment : ℕ) → HasHeard session pieces → is_expired session.progress.hold session.last moment ≡ expired_at session.local pieces moment
+pub expired_by : (session : SessionState) (pieces : List Piece) (moment : ℕ) → Keeps session pieces → has_expired session moment ≡ expired_at session.local pieces moment
+unfolding has_expired
 expired_by session pieces moment h =
     ap (λ (hold : ℕ). is_expired hold session.last moment) h.hold ∙ ap (λ (last : ℕ). is_expired (hold_of session.local (joined pieces)) last moment) h.last
 
@@ -52,7 +55,7 @@ pub record GoesOn (session : SessionState) (earlier : List Piece) (piece : List 
   pub partial : framed session.begun ≡ Ok None
   pub spoken : spoken_by (joined earlier) + length session.begun ≡ length (joined earlier)
 
-pub goes_on : (session : SessionState) (earlier : List Piece) (piece : List ℕ) → is_live session ≡ true → HasHeard session earlier → GoesOn session earlier piece
+pub goes_on : (session : SessionState) (earlier : List Piece) (piece : List ℕ) → is_live session ≡ true → Keeps session earlier → GoesOn session earlier piece
 goes_on session earlier piece live h =
     let a = joined earlier in
     let none : closed_by a ≡ None = none_from (closed_by a) (sym (live_by session earlier h) ∙ live) in
@@ -60,7 +63,7 @@ goes_on session earlier piece live h =
     let on = continues session.local start a piece (ap (λ (o : Outcome). o.closed) is ∙ none) in
     let begun : session.begun ≡ rest_of a = h.begun ∙ ap (λ (closed : Option Why). kept closed (rest_of a)) none in
     let progress : (outcome session.local start a).progress ≡ session.progress =
-    ap (λ (o : Outcome). o.progress) is ∙ (λ i. record { stage = sym h.stage i; wide = sym h.wide i; hold = sym h.hold i }) in
+    ap (λ (o : Outcome). o.progress) is ∙ (λ i. record { stage = sym h.stage i; agreed = sym h.agreed i; hold = sym h.hold i }) in
     record {
       closed = none;
       all = sym (life session.local (a ++ piece)) ∙ on.all
@@ -85,7 +88,7 @@ some_spoken count h e = clash (not (count == 0)) h (ap (λ (n : ℕ). not (n == 
     clash : (test : Bool) → test ≡ true → test ≡ false → ⊥
     clash test h k = cc
 
-pub last_by : (session : SessionState) (earlier : List Piece) (piece : Piece) (some : Bool) → is_live session ≡ true → HasHeard session earlier
+pub last_by : (session : SessionState) (earlier : List Piece) (piece : Piece) (some : Bool) → is_live session ≡ true → Keeps session earlier
     → some ≡ not ((outcome session.local session.progress (session.begun ++ piece.octets)).spoken == 0) → (if some then piece.moment else session.last) ≡ last_heard (piece ∷ earlier)
 last_by session earlier piece some live h is = by some is
   where
@@ -118,16 +121,16 @@ last_by session earlier piece some live h is = by some is
 
 -- ---- what is heard of one more piece
 
-pub has_heard : (session : SessionState) (earlier : List Piece) (piece : Piece) (progress : Progress) (some : Bool) (begun : List ℕ) → is_live session ≡ true → HasHeard session earlier
+pub has_heard : (session : SessionState) (earlier : List Piece) (piece : Piece) (progress : Progress) (some : Bool) (begun : List ℕ) → is_live session ≡ true → Keeps session earlier
     → let given = outcome session.local session.progress (session.begun ++ piece.octets) in
     progress ≡ given.progress → some ≡ not (given.spoken == 0) → begun ≡ kept given.closed (rest_of (session.begun ++ piece.octets))
-    → HasHeard (record { peer = session.peer; local = session.local; moment = piece.moment; progress = progress; last = if some then piece.moment else session.last; begun = begun }) (piece ∷ earlier)
+    → Keeps (record { peer = session.peer; local = session.local; moment = piece.moment; progress = progress; last = if some then piece.moment else session.last; begun = begun }) (piece ∷ earlier)
 has_heard session earlier piece progress some begun live h is spoken left =
     let on = goes_on session earlier piece.octets live h in
     let all = ap (λ (o : Outcome). o.progress) on.all in
     record {
       stage = ap (λ (p : Progress). p.stage) (is ∙ sym all);
-      wide = ap (λ (p : Progress). p.wide) (is ∙ sym all);
+      agreed = ap (λ (p : Progress). p.agreed) (is ∙ sym all);
       hold = ap (λ (p : Progress). p.hold) (is ∙ sym all);
       last = last_by session earlier piece some live h spoken;
       begun = left ∙ ap (λ (closed : Option Why). kept closed (rest_of (session.begun ++ piece.octets))) (sym (ap (λ (o : Outcome). o.closed) on.all))
@@ -135,11 +138,11 @@ has_heard session earlier piece progress some begun live h is spoken left =
     }
 
 -- nothing was heard yet
-pub nothing_heard : (session : SessionState) → session.progress ≡ start → session.last ≡ 0 → session.begun ≡ [] → HasHeard session []
-unfolding closed_by framed heard hold_of messages rest_of spoken_by stage_of
+pub nothing_heard : (session : SessionState) → session.progress ≡ start → session.last ≡ 0 → session.begun ≡ [] → Keeps session []
+unfolding closed_by framed heard hold_of framed_messages framed_rest spoken_by stage_of
 nothing_heard session progress last begun = record {
   stage = ap (λ (p : Progress). p.stage) progress;
-  wide = ap (λ (p : Progress). p.wide) progress;
+  agreed = ap (λ (p : Progress). p.agreed) progress;
   hold = ap (λ (p : Progress). p.hold) progress;
   last = last;
   begun = begun;
@@ -166,12 +169,12 @@ steps_live : (local : Local) (progress : Progress) (reason : Option Why) (all : 
 steps_live local progress None [] h = rw h refl
 steps_live local progress (Some reason) [] h = refl
 steps_live local progress reason (message ∷ others) h =
-    by (steps_live local (behind local progress message) reason others (next_live progress.stage)) (end_at progress.stage progress.wide message) refl
+    by (steps_live local (behind local progress message) reason others (next_live progress.stage)) (end_at progress.stage progress.agreed message) refl
   where
     goes : Outcome → Type 0
     goes o = not (is_over o.progress.stage) ≡ is_none o.closed
 
-    by : goes (steps local (behind local progress message) reason others) → (found : Option Why) → end_at progress.stage progress.wide message ≡ found
+    by : goes (steps local (behind local progress message) reason others) → (found : Option Why) → end_at progress.stage progress.agreed message ≡ found
         → goes (steps local progress reason (message ∷ others))
     by rest (Some found) e =
         let is = ap (λ (one : Outcome). first_then one (steps local one.progress reason others)) (step_is local progress message (Some found) e) in

@@ -1,17 +1,20 @@
 -- One message after another.
 use Rattle.std.proofs.Common.{◌≡◌, ◌+◌, ◌∙◌, ◌∷◌, ◌++◌, [], ℕ, false, true, List, take, drop, refl, sym, ap, subst, append_assoc, add_assoc, zero-add, arith}
 use Rattle.std.proofs.lemmas.Bool.Decides.{nat_tests}
-use Rattle.std.specs.Prelude.{Bool, Option, Some, None, Ok, Err, is_some, ◌||◌, ◌==◌, not, map, if◌then◌else◌}
-use Rattle.acct_types.specs.Updates.{Said, update_view}
+use Rattle.std.specs.Prelude.{Bool, Option, Some, None, Ok, Err, is_some, option_map, ◌||◌, ◌==◌, not, map, if◌then◌else◌}
+use Rattle.acct_types.specs.Updates.{update_view}
 use Rattle.bgp_msg.specs.Frames.{framed}
 use Rattle.bgp_msg.specs.declared.message.BgpFault.{BgpFault}
-use Rattle.bgp_session.specs.Steps.{Adds, Outcome, ending, kept, onward, outcome, step, steps}
+use Rattle.bgp_session.specs.Steps.{Gathered, Outcome, added, ending, gathered, kept, listening, onward, outcome, step, steps}
 use Rattle.bgp_session.specs.Stream.{header_end, messages, rest_of}
 use Rattle.bgp_session.specs.declared.hearing.Hearing.{Hearing}
 use Rattle.bgp_session.specs.declared.progress.Local.{Local}
 use Rattle.bgp_session.specs.declared.progress.Progress.{Progress}
 use Rattle.bgp_session.specs.declared.why.Why.{Why}
 use Rattle.bgp_session.specs.declared.why.Why.TheVariants.{Fault}
+use Rattle.framed_pieces.specs.Listening.{heard_all, judged, kept as kept_by, taken}
+use Rattle.framed_pieces.specs.Stream.{fault_at}
+use Rattle.framed_pieces.proofs.TakenLemmas.{at_end}
 use Rattle.bgp_session.proofs.StreamLemmas.{end_bad, end_none, messages_bad, messages_next, messages_none, rest_bad, rest_next, rest_none}
 
 -- ---- what octets give
@@ -55,14 +58,6 @@ first_goes_on first later h = rw h refl
 
 -- ---- what is gathered
 
--- what was gathered so far, and what the rest gives, are what all give
-pub record Leads (local : Local) (start progress : Progress) (octets rest : List ℕ) (old new : Hearing) : Type 0 where
-  pub first : Outcome
-  pub adds : Adds old new first
-  pub live : first.closed ≡ None
-  pub all : outcome local start octets ≡ onward first (outcome local progress rest)
-  pub left : rest_of octets ≡ rest_of rest
-
 or_false : (b : Bool) → b ≡ (b || false)
 or_false true = refl
 or_false false = refl
@@ -81,15 +76,6 @@ onward_none progress later = λ i. record {
   closed = later.closed;
 }
 
-pub leads_begin : (local : Local) (start : Progress) (octets : List ℕ) (old : Hearing) → old.closed ≡ None → Leads local start start octets octets old old
-leads_begin local start octets old live = record {
-  first = ending start None;
-  adds = record { replies = append_none old.replies; updates = append_none (map update_view old.updates); some = or_false old.some; closed = live };
-  live = refl;
-  all = sym (onward_none start (outcome local start octets));
-  left = refl;
-}
-
 -- one behind another are added
 or_sum : (a b : ℕ) → (not (a == 0) || not (b == 0)) ≡ not (a + b == 0)
 or_sum a b = grind (arith, nat_tests)
@@ -97,15 +83,6 @@ or_sum a b = grind (arith, nat_tests)
 or_assoc : (a b c : Bool) → ((a || b) || c) ≡ (a || (b || c))
 or_assoc true b c = refl
 or_assoc false b c = refl
-
-pub adds_onward : (old new last : Hearing) (first later : Outcome) → Adds old new first → Adds new last later → Adds old last (onward first later)
-adds_onward old new last first later one other = record {
-  replies = other.replies ∙ ap (λ (xs : List ℕ). xs ++ later.replies) one.replies ∙ append_assoc old.replies first.replies later.replies;
-  updates = other.updates ∙ ap (λ (xs : List Said). xs ++ later.updates) one.updates ∙ append_assoc (map update_view old.updates) first.updates later.updates;
-  some = other.some ∙ ap (λ (b : Bool). b || not (later.spoken == 0)) one.some ∙ or_assoc old.some (not (first.spoken == 0)) (not (later.spoken == 0))
-      ∙ ap (λ (b : Bool). old.some || b) (or_sum first.spoken later.spoken);
-  closed = other.closed;
-}
 
 pub onward_assoc : (first second third : Outcome) → onward first (onward second third) ≡ onward (onward first second) third
 onward_assoc first second third = λ i. record {
@@ -116,77 +93,90 @@ onward_assoc first second third = λ i. record {
   closed = third.closed;
 }
 
--- a message that is heard
-pub leads_next : (local : Local) (start progress : Progress) (octets rest : List ℕ) (old new last : Hearing) (size : ℕ) → Leads local start progress octets rest old new
-    → framed rest ≡ Ok (Some size) → Adds new last (step local progress (take size rest)) → (step local progress (take size rest)).closed ≡ None
-    → Leads local start (step local progress (take size rest)).progress octets (drop size rest) old last
-leads_next local start progress octets rest old new last size so is added heard =
-    let one = step local progress (take size rest) in
-    let goes = outcome_next local progress rest size is ∙ first_goes_on one (outcome local one.progress (drop size rest)) (none_of one.closed heard) in
-    record {
-      first = onward so.first one;
-      adds = adds_onward old new last so.first one so.adds added;
-      live = heard;
-      all = so.all ∙ ap (onward so.first) goes ∙ onward_assoc so.first one (outcome local one.progress (drop size rest));
-      left = so.left ∙ rest_next rest size is;
+-- nothing more
+added_none : (before : Gathered) → before.closed ≡ None → before ≡ added before (ending before.progress None)
+added_none before live = λ i. record {
+  local = before.local;
+  progress = before.progress;
+  replies = append_none before.replies i;
+  updates = append_none before.updates i;
+  some = or_false before.some i;
+  closed = live i;
+}
+
+added_onward : (before : Gathered) (first later : Outcome) → added (added before first) later ≡ added before (onward first later)
+added_onward before first later =
+    let some : ((before.some || not (first.spoken == 0)) || not (later.spoken == 0)) ≡ (before.some || not (first.spoken + later.spoken == 0)) =
+    or_assoc before.some (not (first.spoken == 0)) (not (later.spoken == 0)) ∙ ap (λ (b : Bool). before.some || b) (or_sum first.spoken later.spoken) in
+    λ i. record {
+      local = before.local;
+      progress = later.progress;
+      replies = append_assoc before.replies first.replies later.replies i;
+      updates = append_assoc before.updates first.updates later.updates i;
+      some = some i;
+      closed = later.closed;
     }
 
--- what all give, and what is kept
-pub record Gives (local : Local) (start after : Progress) (octets : List ℕ) (old new : Hearing) (begun : List ℕ) : Type 0 where
-  pub progress : after ≡ (outcome local start octets).progress
-  pub adds : Adds old new (outcome local start octets)
-  pub kept : begun ≡ kept (outcome local start octets).closed (rest_of octets)
+abbrev as_end : Option BgpFault → Option Why
+as_end found = option_map (λ fault. Fault fault) found
 
-gives : (local : Local) (start after : Progress) (octets : List ℕ) (old new : Hearing) (begun : List ℕ) (all : Outcome) → outcome local start octets ≡ all → after ≡ all.progress → Adds old new all
-    → begun ≡ kept all.closed (rest_of octets) → Gives local start after octets old new begun
-gives local start after octets old new begun all is progress adds same =
-    let P : Outcome → Type 0 = λ o. (after ≡ o.progress) × Adds old new o × (begun ≡ kept o.closed (rest_of octets)) in
-    let there : P (outcome local start octets) = subst P (sym is) (progress, adds, same) in
-    record { progress = there.0; adds = there.1; kept = there.2 }
-
--- no whole message more
-pub leads_end : (local : Local) (start progress : Progress) (octets rest : List ℕ) (old new : Hearing) → Leads local start progress octets rest old new → new.closed ≡ None
-    → framed rest ≡ Ok None → Gives local start progress octets old new rest
-leads_end local start progress octets rest old new so live is =
-    let nothing : Adds new new (ending progress None) = record {
-      replies = append_none new.replies;
-      updates = append_none (map update_view new.updates);
-      some = or_false new.some;
-      closed = live;
-    } in
-    gives local start progress octets old new rest (onward so.first (ending progress None)) (so.all ∙ ap (onward so.first) (outcome_none local progress rest is)) refl
-    (adds_onward old new new so.first (ending progress None) so.adds nothing) (sym (so.left ∙ rest_none rest is))
-
--- a fault in a header
-pub leads_fault : (local : Local) (start progress after : Progress) (octets rest : List ℕ) (old new last : Hearing) (fault : BgpFault) → Leads local start progress octets rest old new
-    → framed rest ≡ Err fault → after ≡ (ending progress (Some (Fault fault))).progress → Adds new last (ending progress (Some (Fault fault)))
-    → Gives local start after octets old last []
-leads_fault local start progress after octets rest old new last fault so is shuts added =
-    let end = ending progress (Some (Fault fault)) in
-    gives local start after octets old last [] (onward so.first end) (so.all ∙ ap (onward so.first) (outcome_bad local progress rest fault is)) shuts
-    (adds_onward old new last so.first end so.adds added) refl
-
--- a message that ends the life
-pub leads_over : (local : Local) (start progress after : Progress) (octets rest : List ℕ) (old new last : Hearing) (size : ℕ) → Leads local start progress octets rest old new
-    → framed rest ≡ Ok (Some size) → after ≡ (step local progress (take size rest)).progress → Adds new last (step local progress (take size rest))
-    → is_some (step local progress (take size rest)).closed ≡ true → Gives local start after octets old last []
-leads_over local start progress after octets rest old new last size so is shuts added over =
-    let one = step local progress (take size rest) in
-    let all = so.all ∙ ap (onward so.first) (outcome_next local progress rest size is ∙ first_ends one (outcome local one.progress (drop size rest)) over) in
-    gives local start after octets old last [] (onward so.first one) all shuts (adds_onward old new last so.first one so.adds added) (nothing one.closed (rest_of octets) over)
+-- what a listener gathers of messages is what they give
+gathers : (before : Gathered) (found : Option BgpFault) (all : List (List ℕ)) → before.closed ≡ None
+    → judged listening (heard_all listening before all) found ≡ added before (steps before.local before.progress (as_end found) all)
+gathers before None [] live = added_none before live
+gathers before (Some fault) [] live = ap (λ (closed : Option Why). if is_some closed then before else added before (ending before.progress (Some (Fault fault)))) live
+gathers before found (message ∷ others) live = by (gathers (added before one) found others) one.closed refl
   where
-    nothing : (closed : Option Why) (rest : List ℕ) → is_some closed ≡ true → [] ≡ kept closed rest
-    nothing None rest h = absurd (cc)
-    nothing (Some reason) rest h = refl
+    one : Outcome
+    one = step before.local before.progress message
 
--- what the octets behind give
-pub leads_on : (local : Local) (start progress after : Progress) (octets rest : List ℕ) (old new last : Hearing) (begun : List ℕ) → Leads local start progress octets rest old new
-    → Gives local progress after rest new last begun → Gives local start after octets old last begun
-leads_on local start progress after octets rest old new last begun so given =
-    let later = outcome local progress rest in
-    gives local start after octets old last begun (onward so.first later) so.all given.progress (adds_onward old new last so.first later so.adds given.adds)
-    (given.kept ∙ ap (kept later.closed) (sym so.left))
+    later : Outcome
+    later = steps before.local one.progress (as_end found) others
 
-pub none_from : (closed : Option Why) → is_some closed ≡ false → closed ≡ None
-none_from None h = refl
-none_from (Some reason) h = absurd (cc)
+    goes : Bool → Gathered
+    goes over = judged listening (if over then added before one else heard_all listening (added before one) others) found
+
+    by : (one.closed ≡ None → goes false ≡ added (added before one) later) → (closed : Option Why) → one.closed ≡ closed → goes (is_some one.closed) ≡ added before (first_then one later)
+    by rest (Some reason) e =
+        let over = some_of one.closed reason e in
+        ap goes over ∙ at_end listening (added before one) found over ∙ ap (added before) (sym (first_ends one later over))
+    by rest None e =
+        let on = none_of one.closed e in
+        ap goes on ∙ rest e ∙ added_onward before one later ∙ ap (added before) (sym (first_goes_on one later on))
+
+pub taken_is : (before : Gathered) (octets : List ℕ) → before.closed ≡ None → taken framed listening before octets ≡ added before (outcome before.local before.progress octets)
+unfolding taken outcome
+taken_is before octets live = gathers before (fault_at framed (rest_of octets)) (messages octets) live
+
+-- what a piece gives
+pub record Gives (old new : Hearing) (begun : List ℕ) (given : Outcome) (octets : List ℕ) : Type 0 where
+  pub progress : new.progress ≡ given.progress
+  pub replies : new.replies ≡ old.replies ++ given.replies
+  pub updates : map update_view new.updates ≡ map update_view old.updates ++ given.updates
+  pub some : new.some ≡ (old.some || not (given.spoken == 0))
+  pub closed : new.closed ≡ given.closed
+  pub kept : begun ≡ kept given.closed (rest_of octets)
+
+kept_is : (closed : Option Why) (rest : List ℕ) → (if is_some closed then [] else rest) ≡ kept closed rest
+kept_is None rest = refl
+kept_is (Some reason) rest = refl
+
+pub gives : (old new : Hearing) (begun octets : List ℕ) → old.closed ≡ None → gathered new ≡ taken framed listening (gathered old) octets → begun ≡ kept_by framed listening (gathered old) octets
+    → Gives old new begun (outcome old.local old.progress octets) octets
+gives old new begun octets live takes keeps =
+    let is = taken_is (gathered old) octets live in
+    let all = takes ∙ is in
+    record {
+      progress = ap (λ (g : Gathered). g.progress) all;
+      replies = ap (λ (g : Gathered). g.replies) all;
+      updates = ap (λ (g : Gathered). g.updates) all;
+      some = ap (λ (g : Gathered). g.some) all;
+      closed = ap (λ (g : Gathered). g.closed) all;
+      kept = keeps ∙ ap (λ (g : Gathered). if is_some g.closed then [] else rest_of octets) is ∙ kept_is (outcome old.local old.progress octets).closed (rest_of octets);
+    }
+
+pub gives_from : (old new : Hearing) (begun octets : List ℕ) (local : Local) (start : Progress) → old.local ≡ local → old.progress ≡ start → old.closed ≡ None
+    → gathered new ≡ taken framed listening (gathered old) octets → begun ≡ kept_by framed listening (gathered old) octets → Gives old new begun (outcome local start octets) octets
+gives_from old new begun octets local start local_is start_is live takes keeps =
+    subst (λ (l : Local). Gives old new begun (outcome l start octets) octets) local_is
+    (subst (λ (p : Progress). Gives old new begun (outcome old.local p octets) octets) start_is (gives old new begun octets live takes keeps))

@@ -32,10 +32,13 @@ pub record IsOver (local : Local) (octets more : List ℕ) (reason : Why) : Type
   pub answered : replies_to local (octets ++ more) ≡ replies_to local octets
   pub learned : updates_in (octets ++ more) ≡ updates_in octets
 
--- two sessions stand alike: they answer alike from then on
-pub record StandAlike (one other : SessionState) : Type 0 where
+-- Two sessions stand alike: they await the same, agreed on the same, and keep the same of a message begun.
+pub record KeepAlike (one other : SessionState) : Type 0 where
   pub progress : one.progress ≡ other.progress
   pub begun : one.begun ≡ other.begun
+
+unfoldable pub StandAlike : SessionState → SessionState → Type 0
+StandAlike one other = KeepAlike one other
 
 -- the octets of pieces came at the same moments
 abbrev pub ComeTogether : List Piece → List Piece → Type 0

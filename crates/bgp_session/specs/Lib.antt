@@ -1,4 +1,3 @@
-pub mod Begun
 pub mod Laws
 pub mod Lives
 pub mod Moments

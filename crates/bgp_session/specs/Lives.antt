@@ -9,6 +9,7 @@ use Rattle.bgp_msg.specs.Opens.{hello_of}
 use Rattle.bgp_msg.specs.Updates.{said}
 use Rattle.bgp_msg.specs.Written.{keepalive_spelling, notification_spelling, open_spelling}
 use Rattle.bgp_msg.specs.declared.message.Agreed.{Agreed}
+use Rattle.bgp_msg.specs.declared.message.Hello.{Hello}
 use Rattle.bgp_session.specs.Stream.{header_end, messages, rest_of}
 use Rattle.bgp_session.specs.declared.progress.Local.{Local}
 use Rattle.bgp_session.specs.declared.progress.Stage.{Stage}
@@ -30,38 +31,42 @@ next AwaitsKeepalive = Established
 next Established = Established
 next Closed = Established
 
-abbrev pub agreed : Bool → Agreed
-agreed wide = record { four_octets = wide; path_ids_v4 = false; path_ids_v6 = false }
+abbrev pub nothing_agreed : Agreed
+nothing_agreed = record { four_octets = false; path_ids_v4 = false; path_ids_v6 = false }
+
+-- what is agreed with a peer that says this
+abbrev pub agreed_with : Hello → Agreed
+agreed_with hello = record { four_octets = hello.four_octets; path_ids_v4 = hello.path_ids_v4; path_ids_v6 = hello.path_ids_v6 }
 
 -- What ends a life at a message that comes in this stage. Finite State Machine Error is code 5 (RFC 4271, 6.6); its place is that of the type.
 -- A message that isn't awaited is refused for that before its body is looked at.
-unfoldable pub end_at : Stage → Bool → List ℕ → Option Why
-end_at stage wide message =
+unfoldable pub end_at : Stage → Agreed → List ℕ → Option Why
+end_at stage agreed message =
     if kind_of message == 3 then Some (why.Notified (slice_index message 19) (slice_index message 20))
     else (if not (fits stage (kind_of message)) then Some (why.Fault (fault 5 0 18))
-    else option_map (λ fault. why.Fault fault) (body_fault (agreed wide) message))
+    else option_map (λ fault. why.Fault fault) (body_fault agreed message))
 
 -- the messages up to the one that ends the life, and what ends it
-abbrev pub heard_from : Stage → Bool → List (List ℕ) → List (List ℕ)
-heard_from stage wide [] = []
-heard_from stage wide (message ∷ others) = if is_some (end_at stage wide message) then [] else message ∷ heard_from (next stage) wide others
+abbrev pub heard_from : Stage → Agreed → List (List ℕ) → List (List ℕ)
+heard_from stage agreed [] = []
+heard_from stage agreed (message ∷ others) = if is_some (end_at stage agreed message) then [] else message ∷ heard_from (next stage) agreed others
 
-abbrev pub end_from : Stage → Bool → List (List ℕ) → Option Why
-end_from stage wide [] = None
-end_from stage wide (message ∷ others) = option_or (end_at stage wide message) (end_from (next stage) wide others)
+abbrev pub end_from : Stage → Agreed → List (List ℕ) → Option Why
+end_from stage agreed [] = None
+end_from stage agreed (message ∷ others) = option_or (end_at stage agreed message) (end_from (next stage) agreed others)
 
--- whether the peer has four-octet numbers (RFC 6793): the first message says it, which is the OPEN
-abbrev pub is_wide : List (List ℕ) → Bool
-is_wide [] = false
-is_wide (open_message ∷ others) = (hello_of open_message).four_octets
+-- what is agreed on with the peer: the first message says it, which is the OPEN
+abbrev pub agreed_in : List (List ℕ) → Agreed
+agreed_in [] = nothing_agreed
+agreed_in (open_message ∷ others) = agreed_with (hello_of open_message)
 
 -- the messages that a peer's octets tell, up to the one that ends its life
 unfoldable pub heard : List ℕ → List (List ℕ)
-heard octets = heard_from AwaitsOpen (is_wide (messages octets)) (messages octets)
+heard octets = heard_from AwaitsOpen (agreed_in (messages octets)) (messages octets)
 
 -- Why the life is over, where its octets show it. A header is judged once it is there, and a body once it is whole.
 unfoldable pub closed_by : List ℕ → Option Why
-closed_by octets = option_or (end_from AwaitsOpen (is_wide (messages octets)) (messages octets)) (header_end (rest_of octets))
+closed_by octets = option_or (end_from AwaitsOpen (agreed_in (messages octets)) (messages octets)) (header_end (rest_of octets))
 
 -- ---- what is answered
 
@@ -91,12 +96,12 @@ replies_to local octets = flat_map (reply_to local) (heard octets) ++ farewell (
 
 -- ---- what is learned
 
-unfoldable pub update_in : Bool → List ℕ → List Said
-update_in wide message = if kind_of message == 2 then said wide message ∷ [] else []
+unfoldable pub update_in : Agreed → List ℕ → List Said
+update_in agreed message = if kind_of message == 2 then said agreed message ∷ [] else []
 
 -- what the UPDATEs say
 unfoldable pub updates_in : List ℕ → List Said
-updates_in octets = flat_map (update_in (is_wide (messages octets))) (heard octets)
+updates_in octets = flat_map (update_in (agreed_in (messages octets))) (heard octets)
 
 -- The agreed hold time in seconds: the lesser of the two (RFC 4271, 4.2), where the peer's OPEN has come. 0 is none.
 abbrev pub hold_agreed : Local → List (List ℕ) → ℕ

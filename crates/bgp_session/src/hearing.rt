@@ -2,6 +2,7 @@
 
 ghost use Rattle.std.specs.Prelude.{◌≡◌, [], false, None};
 
+use crate::progress::{Local, Progress};
 use crate::{Turn, Why};
 use acct_types::{List, Octets, Update};
 use std::alloc::Global;
@@ -9,6 +10,9 @@ use std::alloc::Global;
 /// What is gathered while a piece is heard.
 #[derive(Drop)]
 pub(crate) struct Hearing {
+    pub(crate) alloc: Global,
+    pub(crate) local: Local,
+    pub(crate) progress: Progress,
     pub(crate) replies: Octets,
     pub(crate) updates: List<Update>,
     /// A message was heard.
@@ -17,13 +21,18 @@ pub(crate) struct Hearing {
 }
 
 impl Hearing {
-    pub(crate) fn new(alloc: Global) -> Hearing
+    pub(crate) fn new(alloc: Global, local: Local, progress: Progress) -> Hearing
+        ensures local { result.local ≡ local }
+        ensures progress { result.progress ≡ progress }
         ensures replies { result.replies ≡ [] }
         ensures updates { result.updates ≡ [] }
         ensures some { result.some ≡ false }
         ensures closed { result.closed ≡ None }
     {
         Hearing {
+            alloc,
+            local,
+            progress,
             replies: List::new(alloc),
             updates: List::new(alloc),
             some: false,

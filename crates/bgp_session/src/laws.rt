@@ -4,7 +4,7 @@ ghost use Rattle.std.specs.Prelude.{◌≡◌, ℕ, Some, None, List as Sequence
 ghost use Rattle.bgp_session.specs.Laws.{AreInOrder, ComeTogether, Grows, IsOver, StandAlike};
 ghost use Rattle.bgp_session.specs.Lives.{closed_by, heard};
 ghost use Rattle.bgp_session.specs.Moments.{Piece, joined};
-ghost use Rattle.bgp_session.specs.Sessions.{HasHeard, SessionState};
+ghost use Rattle.bgp_session.specs.Sessions.{HasHeard, SessionState, has_expired};
 ghost use Rattle.bgp_session.specs.declared.progress.Local.{Local};
 ghost use Rattle.bgp_session.specs.declared.why.Why.{Why};
 
@@ -23,10 +23,13 @@ pub fn an_end_is_the_end()
     ensures { (local : Local) (octets more : Sequence ℕ) (reason : Why) → closed_by octets ≡ Some reason → IsOver local octets more reason }
 {}
 
-/// Sessions that took the same octets stand alike, in whatever pieces they came.
+/// Sessions that took the same octets stand alike, in whatever pieces they came. Where the octets came at the same moments too, the
+/// sessions expire at the same moments, and each has taken the pieces of the other.
 pub fn pieces_join()
     ensures alike { (one other : SessionState) (pieces others : Sequence Piece) → HasHeard one pieces → HasHeard other others
         → one.local ≡ other.local → joined pieces ≡ joined others → StandAlike one other }
-    ensures last { (one other : SessionState) (pieces others : Sequence Piece) → HasHeard one pieces → HasHeard other others
-        → joined pieces ≡ joined others → ComeTogether pieces others → one.last ≡ other.last }
+    ensures expire { (one other : SessionState) (pieces others : Sequence Piece) → HasHeard one pieces → HasHeard other others
+        → one.local ≡ other.local → joined pieces ≡ joined others → ComeTogether pieces others → (moment : ℕ) → has_expired one moment ≡ has_expired other moment }
+    ensures others { (session : SessionState) (pieces others : Sequence Piece) → HasHeard session pieces
+        → joined pieces ≡ joined others → ComeTogether pieces others → HasHeard session others }
 {}

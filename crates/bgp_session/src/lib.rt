@@ -2,9 +2,9 @@
 //! what the peer's UPDATEs say. Nothing is announced to the peer.
 #![tactic(auto)]
 
-mod begun;
 #[cfg(test)]
 mod bird;
+mod framing;
 mod hearing;
 pub mod laws;
 mod message;
@@ -15,6 +15,7 @@ mod tests;
 mod turn;
 mod why;
 
+pub use progress::Local;
 pub use session::Session;
 pub use turn::Turn;
 pub use why::Why;

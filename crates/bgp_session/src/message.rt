@@ -1,17 +1,20 @@
-//! One message, and messages one behind another.
+//! One message after another.
 
 ghost use Rattle.std.specs.Prelude.{◌≡◌, ◌++◌, [], true, Ok, Some, None, IfOk, OnOk, length};
 ghost use Rattle.bgp_msg.specs.Frames.{framed};
-ghost use Rattle.bgp_session.specs.Lives.{agreed, next};
-ghost use Rattle.bgp_session.specs.Steps.{Adds, ending, greeted, greeting, kept, outcome, step};
-ghost use Rattle.bgp_session.specs.Stream.{rest_of};
+ghost use Rattle.bgp_session.specs.Lives.{agreed_with, next};
+ghost use Rattle.bgp_session.specs.Steps.{Adds, ending, greeted, greeting, step};
 
 use crate::Why;
-use crate::begun::complete;
+use crate::framing::Headers;
 use crate::hearing::Hearing;
 use crate::progress::{Local, Progress, Stage};
-use acct_types::{NoMemory, Octets};
-use bgp_msg::{Agreed, BgpFault, BgpMessage, BgpRefusal, Hello, frame, read_message, write_keepalive, write_notification, write_open};
+use acct_types::NoMemory;
+use bgp_msg::{
+    Agreed, BgpFault, BgpMessage, BgpRefusal, Hello, read_message, write_keepalive,
+    write_notification, write_open,
+};
+use framed_pieces::Listener;
 use std::alloc::Global;
 
 const NOTIFICATION: u8 = 3;
@@ -24,11 +27,7 @@ const NOT_AWAITED: BgpFault = BgpFault {
 };
 
 // Ends the life, with a NOTIFICATION where the peer is at fault.
-pub(crate) fn shut(
-    progress: Progress,
-    why: Why,
-    hearing: &mut Hearing,
-) -> Result<Progress, NoMemory>
+fn shut(progress: Progress, why: Why, hearing: &mut Hearing) -> Result<Progress, NoMemory>
     ensures progress { IfOk result (λ after. after ≡ (ending progress (Some why)).progress) }
     ensures adds { IfOk result (λ after. Adds hearing.old hearing.new (ending progress (Some why))) }
 {
@@ -42,13 +41,13 @@ pub(crate) fn shut(
     })
 }
 
-fn agreed(wide: bool) -> Agreed
-    ensures { result ≡ agreed wide }
+fn agreed_with(hello: &Hello) -> Agreed
+    ensures { result ≡ agreed_with hello.now }
 {
     Agreed {
-        four_octets: wide,
-        path_ids_v4: false,
-        path_ids_v6: false,
+        four_octets: hello.four_octets,
+        path_ids_v4: hello.path_ids_v4,
+        path_ids_v6: hello.path_ids_v6,
     }
 }
 
@@ -69,7 +68,7 @@ fn greet(
     hearing.some = true;
     Ok(Progress {
         stage: progress.stage.next(),
-        wide: hello.four_octets,
+        agreed: agreed_with(hello),
         hold: local.hold.min(hello.hold),
     })
 }
@@ -86,7 +85,7 @@ fn proceed(progress: Progress, hearing: &mut Hearing) -> Progress
     }
 }
 
-/// Takes a whole message.
+// Takes a whole message.
 #[tactic(auto, unfolding(crate::specs::Lives::end_at, crate::specs::Lives::reply_to, crate::specs::Lives::update_in, crate::specs::Steps::step, bgp_msg::specs::Frames::framed, bgp_msg::specs::Messages::body_fault))]
 fn hear(
     alloc: Global,
@@ -104,7 +103,7 @@ fn hear(
     if kind != NOTIFICATION && !progress.stage.fits(kind) {
         return shut(progress, Why::Fault(NOT_AWAITED), hearing);
     }
-    match read_message(alloc, message, &agreed(progress.wide)) {
+    match read_message(alloc, message, &progress.agreed) {
         Err(BgpRefusal::NoMemory) => Err(NoMemory),
         Err(BgpRefusal::Fault(fault)) => shut(progress, Why::Fault(fault), hearing),
         Ok(BgpMessage::Notification { code, subcode }) => {
@@ -122,79 +121,26 @@ fn hear(
     }
 }
 
-/// Takes the whole messages at the front, and keeps the rest, unless the life is over then.
-fn hear_all(
-    alloc: Global,
-    local: Local,
-    start: Progress,
-    begun: &mut Octets,
-    octets: &[u8],
-    hearing: &mut Hearing,
-) -> Result<Progress, NoMemory>
-    requires empty { begun.old ≡ [] }
-    requires live { hearing.old.closed ≡ None }
-    ensures progress { IfOk result (λ after. after ≡ (outcome local start octets.now).progress) }
-    ensures adds { OnOk result (Adds hearing.old hearing.new (outcome local start octets.now)) }
-    ensures kept { OnOk result (begun.new ≡ kept (outcome local start octets.now).closed (rest_of octets.now)) }
-{
-    let mut progress = start;
-    let mut rest = octets;
-    loop {
-        match frame(rest) {
-            Err(fault) => {
-                progress = shut(progress, Why::Fault(fault), hearing)?;
-                return Ok(progress);
-            }
-            Ok(None) => {
-                begun.extend(rest)?;
-                return Ok(progress);
-            }
-            Ok(Some(size)) => {
-                let (message, later) = rest.split_at(size as usize);
-                progress = hear(alloc, local, progress, message, hearing)?;
-                if hearing.closed.is_some() {
-                    return Ok(progress);
-                }
-                rest = later;
-            }
-        }
-    }
-}
+impl Listener<Headers> for Hearing {
+    ghost use Rattle.bgp_session.specs.Steps.{Gathered, gathered, listening as hears_by_steps};
 
-/// Takes a piece, behind the octets of a message begun. What isn't a whole message is kept then, unless the life is over.
-pub(crate) fn hear_piece(
-    alloc: Global,
-    local: Local,
-    start: Progress,
-    begun: &mut Octets,
-    piece: &[u8],
-    hearing: &mut Hearing,
-) -> Result<Progress, NoMemory>
-    requires partial { framed begun.old ≡ Ok None }
-    requires live { hearing.old.closed ≡ None }
-    ensures progress { IfOk result (λ after. after ≡ (outcome local start (begun.old ++ piece.now)).progress) }
-    ensures adds { OnOk result (Adds hearing.old hearing.new (outcome local start (begun.old ++ piece.now))) }
-    ensures kept { OnOk result (begun.new ≡ kept (outcome local start (begun.old ++ piece.now)).closed (rest_of (begun.old ++ piece.now))) }
-{
-    if begun.is_empty() {
-        return hear_all(alloc, local, start, begun, piece, hearing);
+    ghost State = { Gathered };
+
+    ghost state = { gathered };
+
+    ghost listening = { hears_by_steps };
+
+    fn hear(&mut self, message: &[u8]) -> Result<(), NoMemory> {
+        self.progress = hear(self.alloc, self.local, self.progress, message, self)?;
+        Ok(())
     }
-    let rest = complete(begun, piece)?;
-    match frame(begun.as_slice()) {
-        Err(fault) => {
-            begun.truncate(0);
-            let progress = shut(start, Why::Fault(fault), hearing)?;
-            Ok(progress)
-        }
-        Ok(None) => Ok(start),
-        Ok(Some(_)) => {
-            let progress = hear(alloc, local, start, begun.as_slice(), hearing)?;
-            begun.truncate(0);
-            if hearing.closed.is_some() {
-                return Ok(progress);
-            }
-            let after = hear_all(alloc, local, progress, begun, rest, hearing)?;
-            Ok(after)
-        }
+
+    fn refuse(&mut self, fault: BgpFault) -> Result<(), NoMemory> {
+        self.progress = shut(self.progress, Why::Fault(fault), self)?;
+        Ok(())
+    }
+
+    fn is_over(&self) -> bool {
+        self.closed.is_some()
     }
 }

@@ -3,6 +3,8 @@
 ghost use Rattle.std.specs.Prelude.{◌≡◌};
 ghost use Rattle.bgp_session.specs.Lives.{fits, next};
 
+use bgp_msg::Agreed;
+
 /// What is awaited of the peer (RFC 4271, 8.2.2).
 #[derive(Clone, Copy, Debug, PartialEq, Eq)]
 pub(crate) enum Stage {
@@ -15,23 +17,29 @@ pub(crate) enum Stage {
 }
 
 /// What this side says of itself in its OPEN.
-#[derive(Clone, Copy, Debug)]
-pub(crate) struct Local {
+#[derive(Clone, Copy, Debug, PartialEq, Eq)]
+pub struct Local {
     /// Its BGP identifier.
-    pub(crate) id: u32,
+    pub id: u32,
     /// Its hold time in seconds.
-    pub(crate) hold: u16,
+    pub hold: u16,
 }
 
 /// How far the two sides have come, and what they agreed on.
 #[derive(Clone, Copy, Debug)]
 pub(crate) struct Progress {
     pub(crate) stage: Stage,
-    /// Numbers of autonomous systems have four octets in AS_PATH.
-    pub(crate) wide: bool,
+    pub(crate) agreed: Agreed,
     /// The agreed hold time in seconds; 0 where there is none.
     pub(crate) hold: u16,
 }
+
+/// Before the peer's OPEN.
+pub(crate) const NOTHING_AGREED: Agreed = Agreed {
+    four_octets: false,
+    path_ids_v4: false,
+    path_ids_v6: false,
+};
 
 const OPEN: u8 = 1;
 

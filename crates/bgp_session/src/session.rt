@@ -2,18 +2,18 @@ ghost use Rattle.std.specs.Prelude.{◌≡◌, ◌≤◌, ◌++◌, ◌∷◌, [
 ghost use Rattle.acct_types.specs.Updates.{update_view};
 ghost use Rattle.bgp_session.specs.Lives.{closed_by, replies_to, updates_in};
 ghost use Rattle.bgp_session.specs.Moments.{Piece, expired_at, is_expired, joined};
-ghost use Rattle.bgp_session.specs.Sessions.{HasHeard, is_live};
+ghost use Rattle.bgp_session.specs.Sessions.{HasHeard, has_expired, is_live};
 
 use crate::Turn;
+use crate::framing::Headers;
 use crate::hearing::Hearing;
-use crate::message::hear_piece;
-use crate::progress::{Local, Progress, Stage};
+use crate::progress::{Local, NOTHING_AGREED, Progress, Stage};
 use acct_types::{Addr, List, NoMemory, Octets};
+use framed_pieces::take_piece;
 use std::alloc::Global;
 use std::marker::Model;
 
-/// A session with a peer, from its connection on. Contracts see what was agreed, and what is kept of a message begun: at most 4,095
-/// octets, in room that is used again.
+/// A session with a peer, from its connection on. It keeps at most 4,095 octets of a message begun, in room that is used again.
 #[derive(Drop)]
 pub struct Session {
     alloc: Global,
@@ -76,7 +76,7 @@ impl Session {
             moment,
             progress: Progress {
                 stage: Stage::AwaitsOpen,
-                wide: false,
+                agreed: NOTHING_AGREED,
                 hold: 0,
             },
             last: 0,
@@ -99,6 +99,7 @@ impl Session {
     }
 
     /// Whether the session goes on: nothing has ended it, and memory never ran out.
+    #[tactic(auto, unfolding(crate::specs::Sessions::is_live))]
     pub fn live(&self) -> bool
         ensures state { result ≡ is_live self.now }
         ensures behind { (pieces : Sequence Piece) → HasHeard self.now pieces → result ≡ is_none (closed_by (joined pieces)) }
@@ -108,6 +109,7 @@ impl Session {
 
     /// Takes the peer's next octets, at most 65,535, which came at a moment in milliseconds that isn't below the last one. They are judged
     /// with all that came before. After NoMemory the session isn't live.
+    #[tactic(auto, unfolding(crate::specs::Sessions::is_live))]
     pub fn on(&mut self, moment: u64, piece: &[u8]) -> Result<Turn, NoMemory>
         requires live { is_live self.old ≡ true }
         requires later { self.old.moment ≤ moment }
@@ -132,21 +134,14 @@ impl Session {
         let start = self.progress;
         self.moment = moment;
         self.progress.stage = Stage::Closed;
-        let mut hearing = Hearing::new(self.alloc);
-        match hear_piece(
-            self.alloc,
-            self.local,
-            start,
-            &mut self.begun,
-            piece,
-            &mut hearing,
-        ) {
+        let mut hearing = Hearing::new(self.alloc, self.local, start);
+        match take_piece::<Headers, Hearing>(&mut hearing, &mut self.begun, piece) {
             Err(_) => {
                 self.begun.truncate(0);
                 Err(NoMemory)
             }
-            Ok(progress) => {
-                self.progress = progress;
+            Ok(()) => {
+                self.progress = hearing.progress;
                 self.last = last_moment(hearing.some, moment, self.last);
                 Ok(hearing.into_turn())
             }
@@ -155,8 +150,9 @@ impl Session {
 
     /// Whether, at a moment in milliseconds, the agreed hold time has passed since the last OPEN, KEEPALIVE or UPDATE (RFC 4271, 6.5).
     /// Without an OPEN none is agreed. Takes no memory.
+    #[tactic(auto, unfolding(crate::specs::Sessions::has_expired))]
     pub fn expired(&self, moment: u64) -> bool
-        ensures state { result ≡ is_expired self.now.progress.hold self.now.last moment }
+        ensures state { result ≡ has_expired self.now moment }
         ensures behind { (pieces : Sequence Piece) → HasHeard self.now pieces → result ≡ expired_at self.now.local pieces moment }
     {
         has_passed(self.progress.hold, self.last, moment)

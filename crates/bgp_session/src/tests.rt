@@ -34,6 +34,9 @@ const CEASE: &[u8] = b"\0\x15\x03\x06\x04";
 const ANSWER: &[u8] =
     b"\0\x31\x01\x04\xfc\0\0\xb4\x7f\0\0\x01\x14\x02\x12\x01\x04\0\x01\0\x01\x01\x04\0\x02\0\x01\x41\x04\0\0\xfc\0";
 
+// the NOTIFICATION of a marker that isn't all ones
+const BAD_MARKER: &[u8] = b"\0\x15\x03\x01\x01";
+
 // What a session of pieces gave, all together.
 #[derive(Drop)]
 struct Taken {
@@ -147,7 +150,7 @@ fn a_session_is_the_same_in_any_pieces(rt: HostRuntime) -> Result<(), Fail> {
 #[test]
 fn what_ends_a_session(rt: HostRuntime) -> Result<(), Fail> {
     let alloc = rt.alloc();
-    let ends: [(&[&[u8]], Option<Why>, &[&[u8]], usize); 15] = [
+    let ends: [(&[&[u8]], Option<Why>, &[&[u8]], usize); 16] = [
         // What isn't awaited, though its body is faulty too.
         (&[KEEPALIVE], fault(5, 0, 18), &[b"\0\x15\x03\x05\0"], 0),
         (&[UPDATE], fault(5, 0, 18), &[b"\0\x15\x03\x05\0"], 0),
@@ -168,6 +171,13 @@ fn what_ends_a_session(rt: HostRuntime) -> Result<(), Fail> {
             &[OPEN, KEEPALIVE, BAD_OPEN],
             fault(5, 0, 18),
             &[ANSWER, KEEPALIVE, KEEPALIVE, b"\0\x15\x03\x05\0"],
+            0,
+        ),
+        // a header that is bad, behind that
+        (
+            &[KEEPALIVE, b"\0\x12\x04"],
+            fault(5, 0, 18),
+            &[b"\0\x15\x03\x05\0"],
             0,
         ),
         // What is refused, and UPDATEs before it and behind it.
@@ -252,19 +262,22 @@ fn a_marker_is_judged_with_its_header(rt: HostRuntime) -> Result<(), Fail> {
     let alloc = rt.alloc();
     let mut octets = messages(alloc, &[OPEN, KEEPALIVE]).map_err(|_| "memory")?;
     let before = octets.len();
-    octets.push(254).map_err(|_| "memory")?;
+    octets.push(0).map_err(|_| "memory")?;
     octets.extend(&[255u8; 15]).map_err(|_| "memory")?;
     octets.extend(UPDATE).map_err(|_| "memory")?;
-    for (count, closed) in [
-        (1, None),
-        (18, None),
-        (19, fault(1, 1, 0)),
-        (49, fault(1, 1, 0)),
-    ] {
+    let answers: [(usize, Option<Why>, &[&[u8]]); 4] = [
+        (1, None, &[ANSWER, KEEPALIVE, KEEPALIVE]),
+        (18, None, &[ANSWER, KEEPALIVE, KEEPALIVE]),
+        (19, fault(1, 1, 0), &[ANSWER, KEEPALIVE, KEEPALIVE, BAD_MARKER]),
+        (49, fault(1, 1, 0), &[ANSWER, KEEPALIVE, KEEPALIVE, BAD_MARKER]),
+    ];
+    for (count, closed, replies) in answers {
         let end = before.saturating_add(count).min(octets.len());
+        let replies = messages(alloc, replies).map_err(|_| "memory")?;
         let all = heard(alloc, &octets.as_slice()[..end], before, 1)?;
         assert_eq!(rt; all.closed, closed);
         assert_eq!(rt; all.live, closed.is_none());
+        assert_eq!(rt; all.replies, replies);
         let at_once = heard(alloc, &octets.as_slice()[..end], end, 1)?;
         assert_eq!(rt; at_once.closed, closed);
     }

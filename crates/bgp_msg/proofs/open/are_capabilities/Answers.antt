@@ -1,5 +1,6 @@
 use Rattle.std.proofs.Common.{◌∙◌, sym}
-use Rattle.bgp_msg.specs.Opens.{is_capability, item_size}
+use Rattle.bgp_msg.specs.Items.{item_size}
+use Rattle.bgp_msg.specs.Opens.{is_capability}
 use Rattle.bgp_msg.proofs.OpenLemmas.{has_size}
 use Rattle.bgp_msg.proofs.PieceLemmas.{all_end, all_fail, all_next}
 use Rattle.bgp_msg.proofs.open.are_capabilities.Goals as goal

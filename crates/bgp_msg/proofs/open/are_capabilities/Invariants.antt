@@ -1,5 +1,6 @@
 use Rattle.std.proofs.Common.{◌≡◌, length}
-use Rattle.bgp_msg.specs.Opens.{are_capabilities, items}
+use Rattle.bgp_msg.specs.Items.{items}
+use Rattle.bgp_msg.specs.Opens.{are_capabilities}
 use Rattle.bgp_msg.proofs.open.are_capabilities.Given as goal
 
 abbrev pub invariant-loop-rest : goal.invariant-loop-rest

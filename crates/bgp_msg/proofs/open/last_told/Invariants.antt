@@ -1,6 +1,7 @@
 use Rattle.std.proofs.Common.{◌≡◌, true, length}
 use Rattle.std.specs.Option.{option_or}
-use Rattle.bgp_msg.specs.Opens.{are_capabilities, items, last_told}
+use Rattle.bgp_msg.specs.Items.{items}
+use Rattle.bgp_msg.specs.Opens.{are_capabilities, last_told}
 use Rattle.bgp_msg.proofs.open.last_told.Given as goal
 
 abbrev pub invariant-loop-rest : goal.invariant-loop-rest

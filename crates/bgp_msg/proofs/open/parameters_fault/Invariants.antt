@@ -1,5 +1,6 @@
 use Rattle.std.proofs.Common.{◌≡◌, ◌≤◌, ◌+◌, length}
-use Rattle.bgp_msg.specs.Opens.{items, parameters_fault}
+use Rattle.bgp_msg.specs.Items.{items}
+use Rattle.bgp_msg.specs.Opens.{parameters_fault}
 use Rattle.bgp_msg.proofs.open.parameters_fault.Given as goal
 
 abbrev pub invariant-loop-rest : goal.invariant-loop-rest

@@ -1,5 +1,6 @@
 use Rattle.std.proofs.Common.{◌∙◌, refl, sym}
-use Rattle.bgp_msg.specs.Opens.{is_capability, item_size, tells_some}
+use Rattle.bgp_msg.specs.Items.{item_size}
+use Rattle.bgp_msg.specs.Opens.{is_capability, tells_some}
 use Rattle.bgp_msg.proofs.OpenLemmas.{has_size}
 use Rattle.bgp_msg.proofs.PieceLemmas.{all_end, all_fail, all_first, all_next}
 use Rattle.bgp_msg.proofs.open.tell_some.Goals as goal

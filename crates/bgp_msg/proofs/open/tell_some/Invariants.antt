@@ -1,5 +1,6 @@
 use Rattle.std.proofs.Common.{◌≡◌, true, length}
-use Rattle.bgp_msg.specs.Opens.{are_capabilities, items, tell_some}
+use Rattle.bgp_msg.specs.Items.{items}
+use Rattle.bgp_msg.specs.Opens.{are_capabilities, tell_some}
 use Rattle.bgp_msg.proofs.open.tell_some.Given as goal
 
 abbrev pub invariant-loop-rest : goal.invariant-loop-rest

@@ -1,7 +1,8 @@
 use Rattle.std.proofs.Common.{◌≡◌, length}
 use Rattle.std.specs.Prelude.{None}
 use Rattle.std.specs.Option.{option_or}
-use Rattle.bgp_msg.specs.Opens.{items, parameters_fault, told_in}
+use Rattle.bgp_msg.specs.Items.{items}
+use Rattle.bgp_msg.specs.Opens.{parameters_fault, told_in}
 use Rattle.bgp_msg.proofs.open.told_in.Given as goal
 
 abbrev pub invariant-loop-rest : goal.invariant-loop-rest

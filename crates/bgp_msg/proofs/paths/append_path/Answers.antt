@@ -1,4 +1,4 @@
-use Rattle.std.proofs.Common.{◌∙◌, append_assoc, refl, sym}
+use Rattle.std.proofs.Common.{append_assoc, refl}
 use Rattle.std.proofs.lemmas.List.{append-nil}
 use Rattle.bgp_msg.specs.Paths.{is_segment, segment_size}
 use Rattle.bgp_msg.proofs.PieceLemmas.{all_first}

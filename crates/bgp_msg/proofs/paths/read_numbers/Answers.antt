@@ -1,5 +1,5 @@
-use Rattle.std.proofs.Common.{◌≡◌, ◌≤◌, ◌∙◌, ◌-◌, ◌*◌, ◌+◌, ℕ, List, append_assoc, drop, length, length-drop, arith, ap}
-use Rattle.bgp_msg.specs.Paths.{number_width, numbers_of}
+use Rattle.std.proofs.Common.{◌≡◌, ◌∙◌, ℕ, append_assoc, drop, ap}
+use Rattle.bgp_msg.specs.Paths.{number_width}
 use Rattle.bgp_msg.proofs.SegmentLemmas.{numbers_next, room_next}
 use Rattle.bgp_msg.proofs.paths.read_numbers.Goals as goal
 

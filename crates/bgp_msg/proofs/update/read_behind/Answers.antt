@@ -1,4 +1,3 @@
-use Rattle.std.proofs.Common.{arith}
 use Rattle.bgp_msg.proofs.FormLemmas.{next_hop_number}
 use Rattle.bgp_msg.proofs.update.read_behind.Goals as goal
 

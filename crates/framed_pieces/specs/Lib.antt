@@ -1,0 +1,4 @@
+pub mod Begun
+pub mod Framing
+pub mod Listening
+pub mod Stream
