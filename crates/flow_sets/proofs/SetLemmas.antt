@@ -14,7 +14,7 @@ use Rattle.flow_templates.specs.declared.template.Domain.{Domain}
 use Rattle.flow_templates.specs.declared.template.Template.{Template}
 use Rattle.flow_templates.specs.declared.template.TemplateKey.{TemplateKey}
 use Rattle.flow_templates.specs.Changes.{StagedChanges, after, after_all, nothing_staged}
-use Rattle.flow_templates.specs.Decoding.{FailsAs, Said}
+use Rattle.flow_templates.specs.Decoding.{FailsAs, RefusedAs, Said}
 use Rattle.flow_templates.specs.Known.{Known, known_after, rate_after, rate_learned}
 use Rattle.flow_sets.specs.Saying.{behind, both, both_staged, nothing_said, so_far}
 use Rattle.flow_sets.specs.Sets.{front_said, if_said, is_set_cut, set_id, set_length, set_said, sets_from, sets_said}
@@ -97,7 +97,7 @@ reads left domain known number rest said a b c is =
 
 pub is_refused : (domain : Domain) (known : Known) (octets : List ℕ) (number : ℕ) (rest : List ℕ) (now : Said) (undecodable : Undecodable) → Leads domain known octets number rest now
     → 4 ≤ length rest → 4 ≤ set_length rest → set_length rest ≤ length rest
-    → FailsAs undecodable (front_said domain (known_after known now.changes) number rest) → FailsAs undecodable (sets_said domain known octets)
+    → FailsAs undecodable (front_said domain (known_after known now.changes) number rest) → RefusedAs undecodable (sets_said domain known octets)
 is_refused domain known octets number rest now NoMemory so a b c fails = tt
 is_refused domain known octets number rest now (Refused cause) so a b c fails = by so.left so.enough so.leads
   where
