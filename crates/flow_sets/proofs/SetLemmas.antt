@@ -30,7 +30,7 @@ rates_after : (one two : List LearnedRate) (key : RateKey) (before : Option ℕ)
 rates_after [] two key before = refl
 rates_after (learned ∷ one) two key before = rates_after one two key (rate_learned learned key before)
 
-known_twice : (known : Known) (one two : StagedChanges) → known_after (known_after known one) two ≡ known_after known (both_staged one two)
+pub known_twice : (known : Known) (one two : StagedChanges) → known_after (known_after known one) two ≡ known_after known (both_staged one two)
 known_twice known one two = λ i. record {
   template = λ key. templates_after one.templates two.templates key (known.template key) i;
   rate = λ key. rates_after one.rates two.rates key (known.rate key) i;
@@ -62,7 +62,7 @@ same_front domain known number id size rest content first second third =
     ap (λ (id : ℕ). set_said domain known number id content) first
     ∙ ap (set_said domain known number (set_id rest)) (third ∙ ap (λ (n : ℕ). take (n - 4) (drop 4 rest)) second)
 
-stops : (left : ℕ) (domain : Domain) (known : Known) (number : ℕ) (rest : List ℕ) → length rest ≡ 0 → sets_from left domain known number rest ≡ Ok nothing_said
+pub stops : (left : ℕ) (domain : Domain) (known : Known) (number : ℕ) (rest : List ℕ) → length rest ≡ 0 → sets_from left domain known number rest ≡ Ok nothing_said
 stops zero domain known number rest h = refl
 stops (suc left) domain known number rest h = rw h refl
 
@@ -86,7 +86,7 @@ is_cut domain known octets number rest now so h cut = by so.left so.enough so.le
 whole : (rest : List ℕ) → 4 ≤ length rest → 4 ≤ set_length rest → set_length rest ≤ length rest → is_set_cut rest ≡ false
 whole rest a b c = rw (le-ltb (length rest) 4 a, le-ltb (set_length rest) 4 b, le-ltb (length rest) (set_length rest) c) refl
 
-reads : (left : ℕ) (domain : Domain) (known : Known) (number : ℕ) (rest : List ℕ) (said : Result Said Cause) → 4 ≤ length rest → 4 ≤ set_length rest → set_length rest ≤ length rest
+pub reads : (left : ℕ) (domain : Domain) (known : Known) (number : ℕ) (rest : List ℕ) (said : Result Said Cause) → 4 ≤ length rest → 4 ≤ set_length rest → set_length rest ≤ length rest
     → front_said domain known number rest ≡ said
     → sets_from (suc left) domain known number rest
     ≡ if_said said (λ said. behind said (sets_from left domain (known_after known said.changes) (number + 1) (drop (set_length rest) rest)))

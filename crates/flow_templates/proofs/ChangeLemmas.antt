@@ -2,7 +2,7 @@
 use Rattle.std.specs.Option.{option_copied}
 use Rattle.std.proofs.Common.{Bor, ◌≡◌, ◌==◌, ◌∷◌, [], List, Bool, true, false, Option, Some, None, refl, ap, subst}
 use Rattle.std.specs.Prelude.{◌&&◌, IfSome, if◌then◌else◌}
-use Rattle.std.proofs.lemmas.Bool.{and_parts, eqb-true}
+use Rattle.std.proofs.lemmas.Bool.{and_from, and_parts, eq-eqb, eqb-true}
 use Rattle.acct_types.specs.declared.addr.Addr.{Addr}
 use Rattle.acct_types.specs.declared.addr.Addr.TheVariants.{V4, V6}
 use Rattle.acct_types.specs.contracts.addr.AddrPartialEq.TheImpl as address_equality
@@ -55,6 +55,16 @@ pub exact_keys : (a b : TemplateKey) → same_key a b ≡ true → a ≡ b
 exact_keys a b h =
     let parts = and_parts (same_domain a.domain b.domain) (a.id == b.id) h in
     λ i. record { domain = exact_domains a.domain b.domain parts.0 i; id = eqb-true a.id b.id parts.1 i }
+
+same_address_self : (a : Addr) → same_address a a ≡ true
+same_address_self (V4 a) = eq-eqb a a refl
+same_address_self (V6 a) = eq-eqb a a refl
+
+pub same_domain_self : (a : Domain) → same_domain a a ≡ true
+same_domain_self a = and_from _ _ (same_address_self a.exporter) (and_from _ _ (eq-eqb a.version a.version refl) (eq-eqb a.id a.id refl))
+
+pub same_key_self : (a : TemplateKey) → same_key a a ≡ true
+same_key_self a = and_from _ _ (same_domain_self a.domain) (eq-eqb a.id a.id refl)
 
 -- ---- what is found after changes is what an accepted record defines
 
