@@ -1,8 +1,8 @@
 -- Sets behind whole sets.
-use Rattle.std.proofs.Common.{◌≡◌, ◌∙◌, ◌+◌, ◌-◌, ◌≤◌, ◌<◌, ◌++◌, ◌∷◌, [], ℕ, zero, suc, Bool, true, false, cond, List, length, take, drop, refl, sym, ap, subst, length-append, length-drop, arith}
+use Rattle.std.proofs.Common.{◌≡◌, ◌∙◌, ◌+◌, ◌-◌, ◌≤◌, ◌<◌, ◌++◌, ◌∷◌, [], ℕ, zero, suc, Bool, true, false, cond, List, length, take, drop, refl, sym, ap, subst, append_assoc, length-append, length-drop, arith}
 use Rattle.std.specs.Prelude.{◌==◌, ◌||◌, IsOk, Result, Ok, Err, nat_lt, if◌then◌else◌}
 use Rattle.std.proofs.lemmas.Bool.{le-ltb, ltb-false, eqb-true, ne_eqb}
-use Rattle.std.proofs.lemmas.List.{drop-append-le, take-append-le}
+use Rattle.std.proofs.lemmas.List.{drop-append-le, length-take-le, take-append-drop, take-append-le}
 use Rattle.byteorder.specs.Numbers.{big_from-append}
 use Rattle.acct_types.specs.Numbers.{number_at}
 use Rattle.flow_templates.specs.declared.refusal.Cause.{Cause}
@@ -11,8 +11,8 @@ use Rattle.flow_templates.specs.declared.template.Domain.{Domain}
 use Rattle.flow_templates.specs.Decoding.{Said}
 use Rattle.flow_templates.specs.Known.{Known, known_after}
 use Rattle.flow_sets.specs.Saying.{behind, both, nothing_said}
-use Rattle.flow_sets.specs.Sets.{front_said, if_said, is_set_cut, set_count, set_id, set_length, set_said, sets_from, sets_in, sets_said}
-use Rattle.flow_sets.proofs.SayingLemmas.{behind_behind, behind_nothing}
+use Rattle.flow_sets.specs.Sets.{AcceptsSome, front_said, if_said, is_set_cut, set_count, set_id, set_length, set_said, sets_from, sets_in, sets_said}
+use Rattle.flow_sets.proofs.SayingLemmas.{behind_behind, behind_nothing, both_nothing}
 use Rattle.flow_sets.proofs.SetLemmas.{known_twice, reads, stops}
 
 number_before : (octets more : List ℕ) (place width : ℕ) → place + width ≤ length octets → number_at (octets ++ more) place width ≡ number_at octets place width
@@ -144,3 +144,118 @@ pub follow : (domain : Domain) (known : Known) (a b : List ℕ) (said : Said) �
     → sets_said domain known (a ++ b) ≡ behind said (sets_from (length b) domain (known_after known said.changes) (1 + set_count a) b)
 unfolding sets_said
 follow domain known a b said h = joined (length a) domain known 1 a b said (omega arith) h (length (a ++ b)) (omega arith)
+
+-- ---- the sets that were read so far
+
+one_set : (g : ℕ) (b : List ℕ) → 1 ≤ length b → length b ≡ set_length b → sets_in (suc g) b ≡ 1
+one_set g b some all =
+    let there : (length b == 0) ≡ false = ne_eqb (length b) 0 (λ e. omega (arith, e, some)) in
+    rw there (ap suc (by g (drop (set_length b) b) (omega (arith, length-drop (set_length b) b, all))))
+  where
+    by : (g : ℕ) (rest : List ℕ) → length rest ≡ 0 → sets_in g rest ≡ 0
+    by zero rest h = refl
+    by (suc g) rest h = rw h refl
+
+count_more : (f : ℕ) (domain : Domain) (known : Known) (number : ℕ) (a b : List ℕ) (said : Said) → length a ≤ f → sets_from f domain known number a ≡ Ok said
+    → 1 ≤ length b → length b ≡ set_length b → (g : ℕ) → length (a ++ b) ≤ g → sets_in g (a ++ b) ≡ suc (sets_in f a)
+count_more f domain known number [] b said enough h some all zero room = absurd (omega (arith, some, room))
+count_more zero domain known number [] b said enough h some all (suc g) room = one_set g b some all
+count_more (suc f) domain known number [] b said enough h some all (suc g) room = one_set g b some all
+count_more zero domain known number (x ∷ a) b said enough h some all g room = absurd (omega (arith, enough))
+count_more (suc f) domain known number (x ∷ a) b said enough h some all zero room = absurd (omega (arith, room))
+count_more (suc f) domain known number (x ∷ a) b said enough h some all (suc g) room =
+    let octets = x ∷ a in
+    let is = first_set f domain known number octets said (omega arith) h in
+    let whole = is.whole in
+    let long = length-append octets b in
+    let size : set_length (octets ++ b) ≡ set_length octets = number_before octets b 2 2 (omega (arith, whole.head)) in
+    let tail : drop (set_length (octets ++ b)) (octets ++ b) ≡ drop (set_length octets) octets ++ b =
+    ap (λ (n : ℕ). drop n (octets ++ b)) size ∙ drop-append-le (set_length octets) octets b whole.within in
+    let left = length-drop (set_length octets) octets in
+    let there : (length octets == 0) ≡ false = ne_eqb (length octets) 0 (λ e. omega (arith, e, whole.head)) in
+    let both_there : (length (octets ++ b) == 0) ≡ false = ne_eqb (length (octets ++ b)) 0 (λ e. omega (arith, e, long, whole.head)) in
+    counted g (octets ++ b) both_there
+    ∙ ap (λ (rest : List ℕ). suc (sets_in g rest)) tail
+    ∙ ap suc (count_more f domain (known_after known is.first.changes) (number + 1) (drop (set_length octets) octets) b is.others
+    (omega (arith, left, enough, whole.long)) is.rest some all g (omega (arith, length-append (drop (set_length octets) octets) b, left, long, room, whole.long, whole.head)))
+    ∙ sym (ap suc (counted f octets there))
+  where
+    counted : (g : ℕ) (octets : List ℕ) → (length octets == 0) ≡ false → sets_in (suc g) octets ≡ suc (sets_in g (drop (set_length octets) octets))
+    counted g octets h = rw h refl
+
+-- the sets in front of the rest say what was said so far, and are as many as were read
+pub record IsFront (domain : Domain) (known : Known) (octets : List ℕ) (number : ℕ) (rest : List ℕ) (now : Said) : Type 0 where
+  pub front : List ℕ
+  pub are : octets ≡ front ++ rest
+  pub says : sets_said domain known front ≡ Ok now
+  pub count : number ≡ 1 + set_count front
+
+pub no_front : (domain : Domain) (known : Known) (octets : List ℕ) (now : Said) → nothing_said ≡ now → IsFront domain known octets 1 octets now
+unfolding sets_said
+no_front domain known octets now none = record { front = []; are = refl; says = ap Ok none; count = refl }
+
+-- one set alone
+alone : (f : ℕ) (domain : Domain) (known : Known) (number : ℕ) (set : List ℕ) (first : Said) → length set ≤ f → IsWhole set → length set ≡ set_length set
+    → front_said domain known number set ≡ Ok first → sets_from f domain known number set ≡ Ok first
+alone zero domain known number set first enough whole all said = absurd (omega (arith, enough, whole.head))
+alone (suc f) domain known number set first enough whole all said =
+    reads f domain known number set (Ok first) whole.head whole.long whole.within said
+    ∙ ap (behind first) (stops f domain (known_after known first.changes) (number + 1) (drop (set_length set) set) (omega (arith, length-drop (set_length set) set, all)))
+    ∙ ap Ok (both_nothing first)
+
+-- one more set
+pub front_on : (domain : Domain) (known : Known) (octets : List ℕ) (number : ℕ) (rest : List ℕ) (now first : Said) → IsFront domain known octets number rest now
+    → 4 ≤ length rest → 4 ≤ set_length rest → set_length rest ≤ length rest → front_said domain (known_after known now.changes) number rest ≡ Ok first
+    → IsFront domain known octets (number + 1) (drop (set_length rest) rest) (both now first)
+unfolding sets_said
+front_on domain known octets number rest now first is a b c said =
+    let size = set_length rest in
+    let set = take size rest in
+    let parts : set ++ drop size rest ≡ rest = take-append-drop size rest in
+    let long : length set ≡ size = length-take-le size rest c in
+    let same : set_length set ≡ size = sym (number_before set (drop size rest) 2 2 (omega (arith, long, b))) ∙ ap set_length parts in
+    let whole : IsWhole set = record { head = omega (arith, long, b); long = omega (arith, same, b); within = omega (arith, same, long) } in
+    let here : front_said domain (known_after known now.changes) number set ≡ Ok first =
+    sym (same_front domain (known_after known now.changes) number set (drop size rest) whole)
+    ∙ ap (front_said domain (known_after known now.changes) number) parts ∙ said in
+    record {
+      front = is.front ++ set;
+      are = is.are ∙ ap (λ (rest : List ℕ). is.front ++ rest) (sym parts) ∙ sym (append_assoc is.front set (drop size rest));
+      says = follow domain known is.front set now is.says
+          ∙ ap (λ (n : ℕ). behind now (sets_from (length set) domain (known_after known now.changes) n set)) (sym is.count)
+          ∙ ap (behind now) (alone (length set) domain (known_after known now.changes) number set first (omega arith) whole (omega (arith, same, long)) here);
+      count = omega (arith, is.count, count_more (length is.front) domain known 1 is.front set now (omega arith) is.says (omega (arith, long, b)) (omega (arith, same, long)) (length (is.front ++ set)) (omega arith));
+    }
+
+-- memory is wanted for a set that is accepted
+pub some_accepted : (domain : Domain) (known : Known) (octets : List ℕ) (number : ℕ) (rest : List ℕ) (now : Said) → IsFront domain known octets number rest now
+    → 4 ≤ length rest → 4 ≤ set_length rest → set_length rest ≤ length rest → IsOk (front_said domain (known_after known now.changes) number rest)
+    → AcceptsSome domain known octets
+some_accepted domain known octets number rest now is a b c ok = by (front_said domain (known_after known now.changes) number rest) refl ok
+  where
+    by : (said : Result Said Cause) → front_said domain (known_after known now.changes) number rest ≡ said → IsOk said → AcceptsSome domain known octets
+    by (Err cause) said ok = cc ok
+    by (Ok first) said ok =
+        let more = front_on domain known octets number rest now first is a b c said in
+        let long = ap length is.are ∙ length-append is.front rest in
+        let again = ap length more.are ∙ length-append more.front (drop (set_length rest) rest) in
+        record {
+          front = more.front;
+          rest = drop (set_length rest) rest;
+          are = more.are;
+          some = omega (arith, again, long, length-drop (set_length rest) rest, a, b);
+          accepted = subst (λ (said : Result Said Cause). IsOk said) (sym more.says) refl;
+        }
+
+pub front_more : (domain : Domain) (known : Known) (octets : List ℕ) (number : ℕ) (rest next : List ℕ) (now new : Said) → IsFront domain known octets number rest now
+    → 4 ≤ length rest → 4 ≤ set_length rest → set_length rest ≤ length rest → behind now (front_said domain (known_after known now.changes) number rest) ≡ Ok new
+    → next ≡ drop (set_length rest) rest → IsFront domain known octets (number + 1) next new
+front_more domain known octets number rest next now new is a b c adds on =
+    subst (λ (next : List ℕ). IsFront domain known octets (number + 1) next new) (sym on) (by (front_said domain (known_after known now.changes) number rest) refl adds)
+  where
+    by : (said : Result Said Cause) → front_said domain (known_after known now.changes) number rest ≡ said → behind now said ≡ Ok new
+        → IsFront domain known octets (number + 1) (drop (set_length rest) rest) new
+    by (Err cause) is-said adds = cc adds
+    by (Ok first) said adds =
+        let same : both now first ≡ new = cc adds in
+        subst (IsFront domain known octets (number + 1) (drop (set_length rest) rest)) same (front_on domain known octets number rest now first is a b c said)

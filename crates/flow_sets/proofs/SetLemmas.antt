@@ -1,6 +1,6 @@
 -- What the sets so far and those of the rest say.
 use Rattle.std.proofs.Common.{◌≡◌, ◌≤◌, ◌+◌, ◌-◌, ◌∙◌, ◌++◌, ◌∷◌, [], ℕ, zero, suc, false, true, List, Option, length, take, drop, refl, sym, ap, subst, length-drop, arith}
-use Rattle.std.specs.Prelude.{◌==◌, Result, Ok, Err}
+use Rattle.std.specs.Prelude.{◌==◌, IsOk, Result, Ok, Err}
 use Rattle.std.proofs.lemmas.Bool.{le-ltb, ne_eqb}
 use Rattle.flow_templates.specs.declared.change.TemplateChange.{TemplateChange}
 use Rattle.flow_templates.specs.declared.decoded.RawDecoded.{RawDecoded}
@@ -54,6 +54,14 @@ begins domain known octets decoded staged rows notices none =
     subst (Leads domain known octets 1 octets)
     (sym (same_said (so_far decoded staged) nothing_said rows notices (ap (λ (staged : StagedChanges). staged.templates) none) (ap (λ (staged : StagedChanges). staged.rates) none)))
     (from_nothing domain known octets)
+
+pub begins_empty : (decoded : RawDecoded) (staged : StagedChanges) → decoded.rows ≡ [] → decoded.notices ≡ [] → staged ≡ nothing_staged → nothing_said ≡ so_far decoded staged
+begins_empty decoded staged rows notices none =
+    sym (same_said (so_far decoded staged) nothing_said rows notices (ap (λ (staged : StagedChanges). staged.templates) none) (ap (λ (staged : StagedChanges). staged.rates) none))
+
+pub wanted_ok : (undecodable : Undecodable) (said : Result Said Cause) → ◌≡◌ {A = Result RawDecoded Undecodable} (Err undecodable) (Err NoMemory) → FailsAs undecodable said → IsOk said
+wanted_ok NoMemory said h fails = fails
+wanted_ok (Refused cause) said h fails = cc h
 
 -- the set at the front, as it is read
 pub same_front : (domain : Domain) (known : Known) (number id size : ℕ) (rest content : List ℕ) → id ≡ set_id rest → size ≡ set_length rest → content ≡ take (size - 4) (drop 4 rest)
