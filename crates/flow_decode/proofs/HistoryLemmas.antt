@@ -6,7 +6,7 @@ use Rattle.flow_templates.specs.declared.rate.LearnedRate.{LearnedRate}
 use Rattle.flow_templates.specs.declared.rate.RateKey.{RateKey}
 use Rattle.flow_templates.specs.declared.template.TemplateKey.{TemplateKey}
 use Rattle.flow_templates.specs.declared.refusal.Cause.{Cause}
-use Rattle.flow_templates.specs.Changes.{after, after_all}
+use Rattle.flow_templates.specs.Changes.{StagedChanges, after, after_all}
 use Rattle.config_keys.specs.declared.tool.Tool.{Tool}
 use Rattle.flow_templates.specs.Decoding.{Said}
 use Rattle.flow_templates.specs.Known.{Known, known_after, rate_after}
@@ -32,9 +32,14 @@ rates_backwards (learned ∷ rates) earlier key =
 same_known : (a b : Known) → ((key : TemplateKey) → a.template key ≡ b.template key) → ((key : RateKey) → a.rate key ≡ b.rate key) → a ≡ b
 same_known a b templates rates = λ i. record { template = λ key. templates key i; rate = λ key. rates key i }
 
+-- what the parts of a datagram teach comes before what was told
+pub parts_come_first : (told : Told) (changes : StagedChanges) → known_after (known_by told) changes
+    ≡ known_by (record { templates = reverse changes.templates ++ told.templates; rates = reverse changes.rates ++ told.rates })
+parts_come_first told changes = same_known _ _ (λ key. sym (backwards changes.templates told.templates key)) (λ key. sym (rates_backwards changes.rates told.rates key))
+
 -- what is known behind one more datagram is what all told
 pub one_more : (told : Told) (said : Result Said Cause) → known_behind (known_by told) said ≡ known_by (told_more told said)
-one_more told (Ok said) = same_known _ _ (λ key. sym (backwards said.changes.templates told.templates key)) (λ key. sym (rates_backwards said.changes.rates told.rates key))
+one_more told (Ok said) = parts_come_first told said.changes
 one_more told (Err cause) = refl
 
 -- what is known where an accepted datagram's changes were made

@@ -1,1 +1,2 @@
+pub mod FirstMet
 pub mod HistoryLemmas

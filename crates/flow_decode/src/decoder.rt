@@ -7,7 +7,7 @@ ghost use Rattle.flow_templates.specs.Known.{known_in, nothing_known};
 ghost use Rattle.flow_templates.specs.declared.refusal.Undecodable.TheVariants as undecodable;
 ghost use Rattle.flow_decode.specs.Answers.{Answers, Learns};
 ghost use Rattle.flow_decode.specs.Counting.{answer_of};
-ghost use Rattle.flow_decode.specs.Datagrams.{decoded, decoded_netflow};
+ghost use Rattle.flow_decode.specs.Datagrams.{MayWant, MayWantNetflow, decoded, decoded_netflow};
 ghost use Rattle.flow_decode.specs.History.{Knows, decoded_behind};
 
 use crate::counting::counted_flows;
@@ -61,6 +61,7 @@ fn decode_netflow(
     requires unstaged { staged.old ≡ nothing_staged }
     requires fits { length datagram.now.octets ≤ 65535 }
     ensures answer { Gives result staged.new (decoded_netflow (known_in stores.now) datagram.now) }
+    ensures memory { result ≡ Err undecodable.NoMemory → MayWantNetflow (known_in stores.now) datagram.now }
     ensures few { IfOk result (λ decoded. length decoded.rows ≤ length datagram.now.octets) }
     ensures counts { IfOk result (λ decoded. All (λ row. IsBelow (2 ^ 64) row.flow.counts) decoded.rows) }
 {
@@ -87,6 +88,7 @@ fn decode(
     requires unstaged { staged.old ≡ nothing_staged }
     requires fits { length datagram.now.octets ≤ 65535 }
     ensures answer { Gives result staged.new (decoded tool (known_in stores.now) datagram.now) }
+    ensures memory { result ≡ Err undecodable.NoMemory → MayWant tool (known_in stores.now) datagram.now }
     ensures few { IfOk result (λ decoded. length decoded.rows ≤ length datagram.now.octets) }
     ensures counts { IfOk result (λ decoded. All (λ row. IsBelow (2 ^ 64) row.flow.counts) decoded.rows) }
 {
@@ -123,6 +125,7 @@ impl Decoder {
         // By what is known, and what is known then.
         ensures answer { Answers result (answer_of self.old.renormalise map.now (decoded self.old.tool (known_in self.old.stores) datagram.now)) }
         ensures learns { OnOk result (Learns self.old self.new datagram.now) }
+        ensures memory { result ≡ Err undecodable.NoMemory → MayWant self.old.tool (known_in self.old.stores) datagram.now }
         ensures unchanged { OnErr result (self.new ≡ self.old) }
 
         // Over any list of datagrams that were fed before, the newest first.

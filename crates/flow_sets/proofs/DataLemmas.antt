@@ -79,6 +79,17 @@ goes_on domain known template octets old rest now so some least whole long = by 
           leads = sym (behind_behind now one next) ∙ ap (behind now) (sym here) ∙ leads;
         }
 
+-- a record that is judged alone
+pub judged_on : (domain : Domain) (known : Known) (template : Template) (octets rest next : List ℕ) (now : Said) (used : ℕ) → Leads domain known template octets nothing_said rest now
+    → 1 ≤ least_length domain.version template.fields → least_length domain.version template.fields ≤ length rest → used ≡ record_length domain.version template rest → used ≤ length rest
+    → 1 ≤ used → next ≡ drop used rest → (new : Said) × Leads domain known template octets nothing_said next new
+judged_on domain known template octets rest next now used so some least is within long on =
+    let new = both now (record_said domain known template (number_in domain.version template rest)) in (
+      new,
+      subst (λ (next : List ℕ). Leads domain known template octets nothing_said next new) (sym (on ∙ ap (λ (n : ℕ). drop n rest) is))
+          (goes_on domain known template octets nothing_said rest now so some least (omega (arith, is, within)) (omega (arith, is, long))),
+    )
+
 -- ---- flows
 
 -- the numbers at the places of a layout are those of its record

@@ -1,4 +1,5 @@
 pub mod FieldLemmas
+pub mod JoinLemmas
 pub mod LayoutLemmas
 pub mod RecordLemmas
 pub mod WidthLemmas

@@ -1,6 +1,6 @@
 -- What is said one behind another.
 use Rattle.std.proofs.Common.{◌≡◌, ◌∙◌, ◌++◌, ◌∷◌, [], ℕ, List, refl, sym, ap, append_assoc}
-use Rattle.std.specs.Prelude.{Result, Ok, Err}
+use Rattle.std.specs.Prelude.{Result, Ok, Err, IsOk}
 use Rattle.std.proofs.lemmas.List.{append-nil}
 use Rattle.flow_templates.specs.declared.decoded.Notice.{Notice}
 use Rattle.flow_templates.specs.declared.decoded.NoticeCause.{NoticeCause}
@@ -36,6 +36,11 @@ behind_nothing (Err cause) = refl
 pub behind_err : (a : Said) (rest : Result Said Cause) (cause : Cause) → behind a rest ≡ Err cause → rest ≡ Err cause
 behind_err a (Ok rest) cause h = cc h
 behind_err a (Err other) cause h = h
+
+-- what is read to its end isn't refused
+pub said_ok : (wanted : Result Said Cause) (now : Said) → behind nothing_said wanted ≡ Ok now → IsOk wanted
+said_ok (Ok said) now h = refl
+said_ok (Err cause) now h = cc h
 
 -- ---- parts of one kind
 

@@ -1,6 +1,6 @@
 -- What the sets so far and those of the rest say.
 use Rattle.std.proofs.Common.{◌≡◌, ◌≤◌, ◌+◌, ◌-◌, ◌∙◌, ◌++◌, ◌∷◌, [], ℕ, zero, suc, false, true, List, Option, length, take, drop, refl, sym, ap, subst, length-drop, arith}
-use Rattle.std.specs.Prelude.{◌==◌, Result, Ok, Err}
+use Rattle.std.specs.Prelude.{◌==◌, IsOk, Result, Ok, Err}
 use Rattle.std.proofs.lemmas.Bool.{le-ltb, ne_eqb}
 use Rattle.flow_templates.specs.declared.change.TemplateChange.{TemplateChange}
 use Rattle.flow_templates.specs.declared.decoded.RawDecoded.{RawDecoded}
@@ -14,7 +14,7 @@ use Rattle.flow_templates.specs.declared.template.Domain.{Domain}
 use Rattle.flow_templates.specs.declared.template.Template.{Template}
 use Rattle.flow_templates.specs.declared.template.TemplateKey.{TemplateKey}
 use Rattle.flow_templates.specs.Changes.{StagedChanges, after, after_all, nothing_staged}
-use Rattle.flow_templates.specs.Decoding.{FailsAs, Said}
+use Rattle.flow_templates.specs.Decoding.{FailsAs, RefusedAs, Said}
 use Rattle.flow_templates.specs.Known.{Known, known_after, rate_after, rate_learned}
 use Rattle.flow_sets.specs.Saying.{behind, both, both_staged, nothing_said, so_far}
 use Rattle.flow_sets.specs.Sets.{front_said, if_said, is_set_cut, set_id, set_length, set_said, sets_from, sets_said}
@@ -30,7 +30,7 @@ rates_after : (one two : List LearnedRate) (key : RateKey) (before : Option ℕ)
 rates_after [] two key before = refl
 rates_after (learned ∷ one) two key before = rates_after one two key (rate_learned learned key before)
 
-known_twice : (known : Known) (one two : StagedChanges) → known_after (known_after known one) two ≡ known_after known (both_staged one two)
+pub known_twice : (known : Known) (one two : StagedChanges) → known_after (known_after known one) two ≡ known_after known (both_staged one two)
 known_twice known one two = λ i. record {
   template = λ key. templates_after one.templates two.templates key (known.template key) i;
   rate = λ key. rates_after one.rates two.rates key (known.rate key) i;
@@ -55,6 +55,14 @@ begins domain known octets decoded staged rows notices none =
     (sym (same_said (so_far decoded staged) nothing_said rows notices (ap (λ (staged : StagedChanges). staged.templates) none) (ap (λ (staged : StagedChanges). staged.rates) none)))
     (from_nothing domain known octets)
 
+pub begins_empty : (decoded : RawDecoded) (staged : StagedChanges) → decoded.rows ≡ [] → decoded.notices ≡ [] → staged ≡ nothing_staged → nothing_said ≡ so_far decoded staged
+begins_empty decoded staged rows notices none =
+    sym (same_said (so_far decoded staged) nothing_said rows notices (ap (λ (staged : StagedChanges). staged.templates) none) (ap (λ (staged : StagedChanges). staged.rates) none))
+
+pub wanted_ok : (undecodable : Undecodable) (said : Result Said Cause) → ◌≡◌ {A = Result RawDecoded Undecodable} (Err undecodable) (Err NoMemory) → FailsAs undecodable said → IsOk said
+wanted_ok NoMemory said h fails = fails
+wanted_ok (Refused cause) said h fails = cc h
+
 -- the set at the front, as it is read
 pub same_front : (domain : Domain) (known : Known) (number id size : ℕ) (rest content : List ℕ) → id ≡ set_id rest → size ≡ set_length rest → content ≡ take (size - 4) (drop 4 rest)
     → set_said domain known number id content ≡ front_said domain known number rest
@@ -62,7 +70,7 @@ same_front domain known number id size rest content first second third =
     ap (λ (id : ℕ). set_said domain known number id content) first
     ∙ ap (set_said domain known number (set_id rest)) (third ∙ ap (λ (n : ℕ). take (n - 4) (drop 4 rest)) second)
 
-stops : (left : ℕ) (domain : Domain) (known : Known) (number : ℕ) (rest : List ℕ) → length rest ≡ 0 → sets_from left domain known number rest ≡ Ok nothing_said
+pub stops : (left : ℕ) (domain : Domain) (known : Known) (number : ℕ) (rest : List ℕ) → length rest ≡ 0 → sets_from left domain known number rest ≡ Ok nothing_said
 stops zero domain known number rest h = refl
 stops (suc left) domain known number rest h = rw h refl
 
@@ -86,7 +94,7 @@ is_cut domain known octets number rest now so h cut = by so.left so.enough so.le
 whole : (rest : List ℕ) → 4 ≤ length rest → 4 ≤ set_length rest → set_length rest ≤ length rest → is_set_cut rest ≡ false
 whole rest a b c = rw (le-ltb (length rest) 4 a, le-ltb (set_length rest) 4 b, le-ltb (length rest) (set_length rest) c) refl
 
-reads : (left : ℕ) (domain : Domain) (known : Known) (number : ℕ) (rest : List ℕ) (said : Result Said Cause) → 4 ≤ length rest → 4 ≤ set_length rest → set_length rest ≤ length rest
+pub reads : (left : ℕ) (domain : Domain) (known : Known) (number : ℕ) (rest : List ℕ) (said : Result Said Cause) → 4 ≤ length rest → 4 ≤ set_length rest → set_length rest ≤ length rest
     → front_said domain known number rest ≡ said
     → sets_from (suc left) domain known number rest
     ≡ if_said said (λ said. behind said (sets_from left domain (known_after known said.changes) (number + 1) (drop (set_length rest) rest)))
@@ -97,7 +105,7 @@ reads left domain known number rest said a b c is =
 
 pub is_refused : (domain : Domain) (known : Known) (octets : List ℕ) (number : ℕ) (rest : List ℕ) (now : Said) (undecodable : Undecodable) → Leads domain known octets number rest now
     → 4 ≤ length rest → 4 ≤ set_length rest → set_length rest ≤ length rest
-    → FailsAs undecodable (front_said domain (known_after known now.changes) number rest) → FailsAs undecodable (sets_said domain known octets)
+    → FailsAs undecodable (front_said domain (known_after known now.changes) number rest) → RefusedAs undecodable (sets_said domain known octets)
 is_refused domain known octets number rest now NoMemory so a b c fails = tt
 is_refused domain known octets number rest now (Refused cause) so a b c fails = by so.left so.enough so.leads
   where

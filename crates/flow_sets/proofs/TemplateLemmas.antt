@@ -1,11 +1,10 @@
 -- What the template records so far and those of the rest say.
-use Rattle.std.proofs.Common.{◌≡◌, ◌≢◌, ◌<◌, ◌≤◌, ◌∙◌, ℕ, zero, suc, Bool, List, length, drop, refl, sym, ap, subst, length-drop, arith}
+use Rattle.std.proofs.Common.{◌≡◌, ◌<◌, ◌≤◌, ◌∙◌, ℕ, zero, suc, Bool, List, length, drop, refl, sym, ap, subst, length-drop, arith}
 use Rattle.std.specs.Prelude.{Result, Ok, Err}
 use Rattle.std.proofs.lemmas.Bool.{le-ltb, lt-ltb}
 use Rattle.std.proofs.lemmas.List.{append-nil}
 use Rattle.flow_templates.specs.declared.change.TemplateChange.{TemplateChange}
 use Rattle.flow_templates.specs.declared.decoded.RawDecoded.{RawDecoded}
-use Rattle.flow_templates.specs.declared.refusal.Cause.{Cause}
 use Rattle.flow_templates.specs.declared.refusal.Undecodable.{Undecodable}
 use Rattle.flow_templates.specs.declared.refusal.Undecodable.TheVariants.{Refused, NoMemory}
 use Rattle.flow_templates.specs.declared.template.Domain.{Domain}
@@ -14,7 +13,7 @@ use Rattle.flow_templates.specs.declared.template.TemplateFault.TheVariants as f
 use Rattle.flow_templates.specs.declared.template.TemplateTurn.{TemplateTurn}
 use Rattle.flow_templates.specs.Changes.{StagedChanges, and_change}
 use Rattle.flow_templates.specs.Decoding.{FailsAs, Said}
-use Rattle.flow_templates.specs.Templates.{template_record}
+use Rattle.flow_templates.specs.Templates.{length_or_fault, template_record}
 use Rattle.flow_sets.specs.Saying.{behind, both, nothing_said, one_change, so_far}
 use Rattle.flow_sets.specs.Sets.{Refuses, cause_of, change_of, if_judged, templates_from, templates_said}
 use Rattle.flow_sets.proofs.SayingLemmas.{behind_behind, behind_err, both_nothing, same_said}
@@ -83,8 +82,29 @@ one_turn domain options octets old rest next decoded staged new turn so h is lon
     (subst (Leads domain options octets old (drop turn.used rest)) (and_one decoded staged (change_of domain options turn) ∙ ap (so_far decoded) (sym changed))
     (goes_on domain options octets old rest (so_far decoded staged) turn so h is long))
 
--- the answer to a fault is that of its cause
-pub fails : (undecodable : Undecodable) (one : TemplateFault) (judged : Result TemplateTurn TemplateFault) (wanted : Result Said Cause) → Refuses undecodable one
-    → (one ≢ fault.NoMemory → judged ≡ Err one) → (judged ≡ Err one → wanted ≡ Err (cause_of one)) → FailsAs undecodable wanted
-fails NoMemory one judged wanted refuses err is = tt
-fails (Refused cause) one judged wanted refuses err is = is (err refuses.0) ∙ ap Err (sym refuses.1)
+-- ---- records that are judged alone
+
+pub judged_refused : (domain : Domain) (options : Bool) (octets rest : List ℕ) (now : Said) (undecodable : Undecodable) (one : TemplateFault)
+    → Leads domain options octets nothing_said rest now → 4 ≤ length rest → Err one ≡ length_or_fault (template_record domain.version options rest)
+    → (◌≡◌ {A = Result ℕ TemplateFault} (Err one) (Err fault.NoMemory) → ⊥) → Refuses undecodable one → FailsAs undecodable (templates_said domain options octets)
+judged_refused domain options octets rest now NoMemory one so h judged other refuses = absurd (other (ap Err refuses))
+judged_refused domain options octets rest now (Refused cause) one so h judged other refuses =
+    is_refused domain options octets nothing_said rest now one so h (by (template_record domain.version options rest) judged) ∙ ap Err (sym refuses.1)
+  where
+    by : (answer : Result TemplateTurn TemplateFault) → Err one ≡ length_or_fault answer → answer ≡ Err one
+    by (Ok turn) h = cc h
+    by (Err other) h = let same : one ≡ other = cc h in ap Err (sym same)
+
+pub judged_on : (domain : Domain) (options : Bool) (octets rest next : List ℕ) (now : Said) (used : ℕ) → Leads domain options octets nothing_said rest now → 4 ≤ length rest
+    → Ok used ≡ length_or_fault (template_record domain.version options rest) → 4 ≤ used → next ≡ drop used rest → (new : Said) × Leads domain options octets nothing_said next new
+judged_on domain options octets rest next now used so h judged long on = by (template_record domain.version options rest) refl judged
+  where
+    by : (answer : Result TemplateTurn TemplateFault) → template_record domain.version options rest ≡ answer → Ok used ≡ length_or_fault answer
+        → (new : Said) × Leads domain options octets nothing_said next new
+    by (Ok turn) is judged =
+        let same : used ≡ turn.used = cc judged in (
+          both now (one_change (change_of domain options turn)),
+          subst (λ (next : List ℕ). Leads domain options octets nothing_said next (both now (one_change (change_of domain options turn)))) (sym (on ∙ ap (λ (n : ℕ). drop n rest) same))
+              (goes_on domain options octets nothing_said rest now turn so h is (omega (arith, long, same))),
+        )
+    by (Err fault) is judged = cc judged

@@ -1,6 +1,6 @@
 -- Sets, as RFC 3954 lays them out in 5.1 to 5.3 and RFC 7011 in 3.3 and 3.4: id (2 octets), length (2), which counts these four octets,
 -- and the content.
-use Rattle.std.specs.Prelude.{ℕ, zero, suc, ◌≡◌, ◌≢◌, ◌+◌, ◌-◌, ◌==◌, ◌||◌, nat_lt, Bool, true, false, List, length, take, drop, Option, Some, None, Result, Ok, Err, if◌then◌else◌}
+use Rattle.std.specs.Prelude.{ℕ, zero, suc, ◌≡◌, ◌≢◌, ◌+◌, ◌-◌, ◌==◌, ◌||◌, nat_lt, Bool, true, false, List, length, take, drop, Option, Some, None, Result, Ok, Err, if◌then◌else◌, IsOk, ◌≤◌, ◌++◌}
 use Rattle.acct_types.specs.Numbers.{number_at}
 use Rattle.flow_templates.specs.declared.change.TemplateChange.{TemplateChange}
 use Rattle.flow_templates.specs.declared.change.TemplateChange.TheVariants.{Put, Withdraw, WithdrawAll}
@@ -117,7 +117,23 @@ sets_from (suc most) domain known number octets =
     else if_said (front_said domain known number octets)
     (λ said. behind said (sets_from most domain (known_after known said.changes) (number + 1) (drop (set_length octets) octets))))
 
+-- how many sets stand one behind another, of which there are at most as many as `most`
+abbrev pub sets_in : ℕ → List ℕ → ℕ
+sets_in zero octets = 0
+sets_in (suc most) octets = if length octets == 0 then 0 else suc (sets_in most (drop (set_length octets) octets))
+
+abbrev pub set_count : List ℕ → ℕ
+set_count octets = sets_in (length octets) octets
+
 -- What the sets of a datagram say, up to its end, or the first cause to refuse it. They are numbered from 1. Each has four octets at
 -- least.
 unfoldable pub sets_said : Domain → Known → List ℕ → Result Said Cause
 sets_said domain known octets = sets_from (length octets) domain known 1 octets
+
+-- Some sets, the first ones, are accepted: one or more.
+pub record AcceptsSome (domain : Domain) (known : Known) (octets : List ℕ) : Type 0 where
+  pub front : List ℕ
+  pub rest : List ℕ
+  pub are : octets ≡ front ++ rest
+  pub some : 1 ≤ length front
+  pub accepted : IsOk (sets_said domain known front)

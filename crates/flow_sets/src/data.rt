@@ -2,6 +2,7 @@
 
 ghost use Rattle.std.specs.Prelude.{◌≡◌, ◌≤◌, ◌+◌, ◌^◌, ◌++◌, All, length, true, false, OnOk};
 ghost use Rattle.acct_types.specs.Counts.{IsBelow};
+ghost use Rattle.flow_templates.specs.Decoding.{FailsAs};
 ghost use Rattle.flow_templates.specs.Known.{known_after, known_in};
 ghost use Rattle.flow_templates.specs.Templates.{is_accepted};
 ghost use Rattle.flow_sets.specs.Layout.{FitsWithin, numbers_by};
@@ -9,6 +10,7 @@ ghost use Rattle.flow_sets.specs.Records.{data_said, row_of};
 ghost use Rattle.flow_sets.specs.Rates.{rate_for, taught};
 ghost use Rattle.flow_sets.specs.Saying.{Adds, Teaches, and_rates, so_far};
 
+use crate::fields::end_of_all;
 use crate::layout::{Layout, Spans, is_fixed};
 use crate::record::{flow_of, own_rate, rate_for, sampler_of, told_rate};
 use acct_types::numbers::after;
@@ -69,6 +71,25 @@ fn row_of(
     }
 }
 
+// Why a data set isn't read: one of its records is cut, or where none is, memory is wanted.
+fn failure_of(domain: &Domain, template: &Template, octets: &[u8]) -> Undecodable
+    requires fits { length octets.now ≤ 65535 }
+    requires accepted { is_accepted domain.now.version template.now ≡ true }
+    ensures { (known : _) → FailsAs result (data_said domain.now known template.now octets.now) }
+{
+    let version = domain.version;
+    let fields = template.fields.as_slice();
+    let least = template.least_length(version) as usize;
+    let mut rest = octets;
+    while rest.len() >= least {
+        let Some(used) = end_of_all(version, fields, rest, 0) else {
+            return Undecodable::Refused(Cause::VarCut);
+        };
+        rest = after(rest, used);
+    }
+    Undecodable::NoMemory
+}
+
 /// The flows of a data set's records.
 pub(crate) fn read_rows(
     stores: &Stores,
@@ -101,7 +122,9 @@ pub(crate) fn read_rows(
             return Err(Undecodable::Refused(Cause::VarCut));
         };
         let row = row_of(stores, staged, domain, &layout.spans, rest, &mut last);
-        decoded.rows.push(row)?;
+        let Ok(()) = decoded.rows.push(row) else {
+            return Err(failure_of(domain, template, octets));
+        };
         rest = after(rest, layout.used);
     }
     Ok(())
@@ -146,7 +169,9 @@ pub(crate) fn read_lessons(
         let Some(()) = layout.renew(version, template, fixed, rest) else {
             return Err(Undecodable::Refused(Cause::VarCut));
         };
-        append_lesson(domain, &layout.spans, rest, &mut lessons)?;
+        let Ok(()) = append_lesson(domain, &layout.spans, rest, &mut lessons) else {
+            return Err(failure_of(domain, template, octets));
+        };
         rest = after(rest, layout.used);
     }
     Ok(lessons)

@@ -3,6 +3,7 @@
 
 mod data;
 mod fields;
+pub mod laws;
 mod layout;
 mod record;
 mod sets;

@@ -1,13 +1,14 @@
 //! The sets of a datagram, one behind another (RFC 3954, 5.1, and RFC 7011, 3.3).
 
-ghost use Rattle.std.specs.Prelude.{◌≡◌, ◌≤◌, ◌+◌, ◌-◌, ◌^◌, ◌⊎◌, All, length, take, drop, IfOk, OnOk};
+ghost use Rattle.std.specs.Prelude.{◌≡◌, ◌≤◌, ◌+◌, ◌-◌, ◌^◌, ◌⊎◌, All, Err, length, take, drop, IfOk, OnOk};
 ghost use Rattle.acct_types.specs.Counts.{IsBelow};
 ghost use Rattle.flow_templates.specs.Changes.{nothing_staged};
+ghost use Rattle.flow_templates.specs.declared.refusal.Undecodable.TheVariants as undecodable;
 ghost use Rattle.flow_templates.specs.Decoding.{Gives};
 ghost use Rattle.flow_templates.specs.Keys.{key_of};
 ghost use Rattle.flow_templates.specs.Known.{known_after, known_in};
 ghost use Rattle.flow_sets.specs.Saying.{Adds, so_far};
-ghost use Rattle.flow_sets.specs.Sets.{data_by, options_set, set_said, sets_said, template_set};
+ghost use Rattle.flow_sets.specs.Sets.{AcceptsSome, data_by, options_set, set_said, sets_said, template_set};
 
 use crate::data::{learn_all, read_lessons, read_rows};
 use crate::templates::read_templates;
@@ -115,7 +116,8 @@ fn between(octets: &[u8], from: usize, to: usize) -> &[u8]
 /// and hold for the sets that follow. A set whose length is below 4 or passes the end is SetLength; template records have the
 /// causes of `read_template` and `read_options_template`; a record that passes its set's end by a field of variable width is
 /// VarCut. The first of these in reading order refuses the datagram. A data set without a template and a set with a reserved
-/// id are passed over with a notice, which has the set's number from 1.
+/// id are passed over with a notice, which has the set's number from 1. Memory is wanted only at a set that isn't refused, behind
+/// sets of which none is.
 pub fn read_sets(
     alloc: Global,
     stores: &Stores,
@@ -127,6 +129,7 @@ pub fn read_sets(
     requires unstaged { staged.old ≡ nothing_staged }
     requires fits { length octets.now ≤ 65535 }
     ensures answer { Gives result staged.new (sets_said domain.now (known_in stores.now) octets.now) }
+    ensures memory { result ≡ Err undecodable.NoMemory → AcceptsSome domain.now (known_in stores.now) octets.now }
     ensures few { IfOk result (λ decoded. length decoded.rows ≤ length octets.now) }
     ensures counts { IfOk result (λ decoded. All (λ row. IsBelow (2 ^ 64) row.flow.counts) decoded.rows) }
 {

@@ -1,16 +1,16 @@
 //! Template sets (RFC 3954, 5.2 and 6.1, and RFC 7011, 3.4.1 and 3.4.2).
 
-ghost use Rattle.std.specs.Prelude.{◌≡◌, ◌⊎◌, ◌≢◌, ◌≤◌, length, IfErr, IfOk, OnOk, Ok, Err};
-ghost use Rattle.flow_templates.specs.declared.template.TemplateFault.TheVariants as fault;
+ghost use Rattle.std.specs.Prelude.{◌≡◌, ◌⊎◌, ◌≤◌, length, IfOk, OnOk};
 ghost use Rattle.flow_templates.specs.Changes.{and_change};
-ghost use Rattle.flow_templates.specs.Templates.{DefinesAccepted, template_record};
+ghost use Rattle.flow_templates.specs.Templates.{DefinesAccepted, Reads, template_record};
+ghost use Rattle.flow_templates.specs.Decoding.{FailsAs};
 ghost use Rattle.flow_sets.specs.Saying.{Adds, so_far};
 ghost use Rattle.flow_sets.specs.Sets.{Refuses, change_of, templates_said};
 
 use acct_types::NoMemory;
 use acct_types::numbers::after;
 use flow_templates::{
-    Cause, Domain, Staged, TemplateFault, TemplateTurn, TemplateWhat, Undecodable,
+    Cause, Domain, Staged, TemplateFault, TemplateTurn, TemplateWhat, Undecodable, judge_template,
     read_options_template, read_template,
 };
 use std::alloc::Global;
@@ -26,6 +26,21 @@ fn refused(fault: TemplateFault) -> Undecodable
         TemplateFault::ScopeCount => Undecodable::Refused(Cause::ScopeCount),
         TemplateFault::NoMemory => Undecodable::NoMemory,
     }
+}
+
+// Why a template set isn't staged: the first fault of its records, or where none has a fault, that memory is wanted.
+fn failure_of(domain: &Domain, options: bool, octets: &[u8]) -> Undecodable
+    ensures { FailsAs result (templates_said domain.now options octets.now) }
+{
+    let mut rest = octets;
+    while rest.len() >= 4 {
+        let used = match judge_template(domain.version, options, rest) {
+            Ok(used) => used,
+            Err(fault) => return refused(fault),
+        };
+        rest = after(rest, used as usize);
+    }
+    Undecodable::NoMemory
 }
 
 // Notes what a template record changes.
@@ -54,8 +69,7 @@ fn read_turn(
     octets: &[u8],
 ) -> Result<TemplateTurn, TemplateFault>
     requires { (version ≡ 9) ⊎ (version ≡ 10) }
-    ensures ok { IfOk result (λ turn. template_record version options octets.now ≡ Ok turn) }
-    ensures err { IfErr result (λ one. one ≢ fault.NoMemory → template_record version options octets.now ≡ Err one) }
+    ensures answer { Reads result (template_record version options octets.now) }
     ensures accepted { IfOk result (λ turn. DefinesAccepted version turn.what) }
     ensures least { IfOk result (λ turn. 4 ≤ turn.used) }
     ensures within { IfOk result (λ turn. turn.used ≤ length octets.now) }
@@ -82,10 +96,12 @@ pub(crate) fn read_templates(
     while rest.len() >= 4 {
         let turn = match read_turn(alloc, domain.version, options, rest) {
             Ok(turn) => turn,
-            Err(fault) => return Err(refused(fault)),
+            Err(_) => return Err(failure_of(domain, options, octets)),
         };
         let used = turn.used as usize;
-        stage(staged, domain, options, turn)?;
+        let Ok(()) = stage(staged, domain, options, turn) else {
+            return Err(failure_of(domain, options, octets));
+        };
         rest = after(rest, used);
     }
     Ok(())

@@ -3,4 +3,5 @@ pub mod DomainLemmas
 pub mod FieldLemmas
 pub mod NotedLemmas
 pub mod RateLemmas
+pub mod RecordLemmas
 pub mod StoreLemmas

@@ -1,12 +1,14 @@
 -- What the derived test of rates' keys finds the same is the same.
-use Rattle.std.proofs.Common.{◌≡◌, refl, ◌∷◌, [], List, Bool, Option, Some, None, ℕ, cond, ap, subst}
+use Rattle.std.proofs.Common.{◌≡◌, refl, ◌∷◌, [], List, Bool, Option, Some, None, ℕ, true, cond, ap, subst}
+use Rattle.std.proofs.lemmas.Bool.{and_from, and_parts, eq-eqb, eqb-true}
 use Rattle.std.specs.Prelude.{◌&&◌}
 use Rattle.std.specs.Map.{lookup}
 use Rattle.flow_templates.specs.declared.rate.RateKey.{RateKey}
 use Rattle.flow_templates.specs.declared.template.Domain.{Domain}
 use Rattle.flow_templates.specs.contracts.rate.RateKeyPartialEq.TheImpl as key_equality
+use Rattle.flow_templates.specs.Changes.{same_domain}
 use Rattle.flow_templates.specs.Known.{RatesAddUp, rate_found, rate_key_of, rate_learned, same_rate_key, same_sampler}
-use Rattle.flow_templates.proofs.ChangeLemmas.{domains_same}
+use Rattle.flow_templates.proofs.ChangeLemmas.{domains_same, exact_domains, same_domain_self}
 
 by_sampler : (d e : Domain) (a b : Option ℕ) → (key_equality.eq-value).it (rate_key_of d a) (rate_key_of e b) ≡ same_rate_key (rate_key_of d a) (rate_key_of e b)
 by_sampler d e None None = ap (λ (first : Bool). first && same_sampler None None) (domains_same d e)
@@ -16,6 +18,24 @@ by_sampler d e (Some a) (Some b) = ap (λ (first : Bool). first && same_sampler 
 
 pub rate_keys_same : (a b : RateKey) → (key_equality.eq-value).it a b ≡ same_rate_key a b
 rate_keys_same a b = by_sampler a.domain b.domain a.sampler b.sampler
+
+exact_samplers : (a b : Option ℕ) → same_sampler a b ≡ true → a ≡ b
+exact_samplers None None h = refl
+exact_samplers None (Some b) h = cc h
+exact_samplers (Some a) None h = cc h
+exact_samplers (Some a) (Some b) h = ap Some (eqb-true a b h)
+
+pub exact_rate_keys : (a b : RateKey) → same_rate_key a b ≡ true → a ≡ b
+exact_rate_keys a b h =
+    let parts = and_parts (same_domain a.domain b.domain) (same_sampler a.sampler b.sampler) h in
+    λ i. record { domain = exact_domains a.domain b.domain parts.0 i; sampler = exact_samplers a.sampler b.sampler parts.1 i }
+
+same_sampler_self : (a : Option ℕ) → same_sampler a a ≡ true
+same_sampler_self None = refl
+same_sampler_self (Some a) = eq-eqb a a refl
+
+pub same_rate_key_self : (a : RateKey) → same_rate_key a a ≡ true
+same_rate_key_self a = and_from _ _ (same_domain_self a.domain) (same_sampler_self a.sampler)
 
 -- the derived test whole
 pub rate_tests_same : (key_equality.eq-value).it ≡ same_rate_key

@@ -1,6 +1,7 @@
 -- The templates that are kept, as a map from keys to templates, and what changes it.
-use Rattle.std.specs.Prelude.{◌≡◌, ◌==◌, ◌&&◌, ◌++◌, Bool, true, false, List, [], ◌∷◌, Option, Some, None, if◌then◌else◌, IfSome}
+use Rattle.std.specs.Prelude.{◌≡◌, ◌==◌, ◌&&◌, ◌++◌, Bool, false, List, [], ◌∷◌, Option, Some, None, if◌then◌else◌, IfSome}
 use Rattle.std.specs.Bool.{beq}
+use Rattle.std.specs.List.{AllByRecursion}
 use Rattle.std.specs.Map.{lookup}
 use Rattle.acct_types.specs.declared.addr.Addr.{Addr}
 use Rattle.acct_types.specs.declared.addr.Addr.TheVariants.{V4, V6}
@@ -11,7 +12,7 @@ use Rattle.flow_templates.specs.declared.template.TemplateKey.{TemplateKey}
 use Rattle.flow_templates.specs.declared.change.TemplateChange.{TemplateChange}
 use Rattle.flow_templates.specs.declared.change.TemplateChange.TheVariants.{Put, Withdraw, WithdrawAll}
 pub use Rattle.flow_templates.specs.Keys.{key_of}
-use Rattle.flow_templates.specs.Templates.{is_accepted}
+use Rattle.flow_templates.specs.Templates.{IsDefined}
 
 abbrev pub Entries : Type 0
 Entries = List (TemplateKey × Template)
@@ -57,15 +58,18 @@ Changes old new change = (key : TemplateKey) → found new key ≡ after change 
 abbrev pub ChangesAll : Entries → Entries → List TemplateChange → Type 0
 ChangesAll old new changes = (key : TemplateKey) → found new key ≡ after_all changes key (found old key)
 
--- what a change puts is an accepted template
-abbrev pub is_accepted_change : TemplateChange → Bool
-is_accepted_change (Put key template) = is_accepted key.domain.version template
-is_accepted_change (Withdraw key) = true
-is_accepted_change (WithdrawAll domain options) = true
+-- what a change puts is a template that an accepted record defines
+abbrev pub PutsDefined : TemplateChange → Type 0
+PutsDefined (Put key template) = IsDefined key.domain.version template
+PutsDefined (Withdraw key) = Unit {0}
+PutsDefined (WithdrawAll domain options) = Unit {0}
 
--- each template that is kept is an accepted one
-abbrev pub AreAccepted : Entries → Type 0
-AreAccepted entries = (key : TemplateKey) → IfSome (found entries key) (λ template. is_accepted key.domain.version template ≡ true)
+abbrev pub PutDefined : List TemplateChange → Type 0
+PutDefined changes = AllByRecursion PutsDefined changes
+
+-- each template that is kept is one that an accepted record defines
+abbrev pub AreDefined : Entries → Type 0
+AreDefined entries = (key : TemplateKey) → IfSome (found entries key) (λ template. IsDefined key.domain.version template)
 
 -- the last change counts over what the earlier ones leave
 abbrev pub ChangesAddUp : Type 0

@@ -6,7 +6,7 @@ use Rattle.flow_templates.specs.declared.template.Domain.{Domain}
 use Rattle.flow_templates.specs.declared.template.Template.{Template}
 use Rattle.flow_templates.specs.declared.change.TemplateChange.{TemplateChange}
 use Rattle.flow_templates.specs.declared.change.TemplateChange.TheVariants.{Put, Withdraw, WithdrawAll}
-use Rattle.flow_templates.specs.Changes.{AreAccepted, Entries, same_domain}
+use Rattle.flow_templates.specs.Changes.{AreDefined, Entries, same_domain}
 use Rattle.flow_templates.specs.Keys.{key_of}
 
 -- the templates of a domain by their ids, and for how many more there is room
@@ -57,7 +57,7 @@ HasRoomFor domains count (WithdrawAll domain options) = ⊤
 abbrev pub HaveRoom : Domains → ℕ → List TemplateChange → Type 0
 HaveRoom domains count changes = All (HasRoomFor domains count) changes
 
--- no domain comes twice, and each template is an accepted one
+-- no domain comes twice, and each template is one that an accepted record defines
 pub record AreKept (domains : Domains) : Type 0 where
   pub apart : IsDistinct same_domain (keys_of domains)
-  pub accepted : AreAccepted (entries_of domains)
+  pub defined : AreDefined (entries_of domains)

@@ -1,5 +1,5 @@
 -- Template records, as RFC 3954 lays them out in 5.2 and 6.1, and RFC 7011 in 3.2 and 3.4.
-use Rattle.std.specs.Prelude.{ℕ, zero, suc, ◌≡◌, ◌+◌, ◌-◌, ◌/◌, ◌%◌, ◌==◌, ◌||◌, ◌&&◌, nat_lt, nat_le, List, [], ◌∷◌, length, drop, sum_by, Some, None, Result, Ok, Err, if◌then◌else◌, not, Bool, true}
+use Rattle.std.specs.Prelude.{ℕ, zero, suc, ◌≡◌, ◌+◌, ◌-◌, ◌/◌, ◌%◌, ◌==◌, ◌||◌, ◌&&◌, nat_lt, nat_le, List, [], ◌∷◌, length, drop, sum_by, Some, None, Result, Ok, Err, if◌then◌else◌, not, Bool, IsOk, ◌<◌, ◌⊎◌, slice_index}
 use Rattle.std.specs.List.{list_all}
 use Rattle.acct_types.specs.Numbers.{number_at}
 use Rattle.flow_templates.specs.declared.template.FieldSpec.{FieldSpec}
@@ -8,7 +8,7 @@ use Rattle.flow_templates.specs.declared.template.TemplateTurn.{TemplateTurn}
 use Rattle.flow_templates.specs.declared.template.TemplateWhat.{TemplateWhat}
 use Rattle.flow_templates.specs.declared.template.TemplateWhat.TheVariants.{Defined, Withdrawn, AllWithdrawn}
 use Rattle.flow_templates.specs.declared.template.TemplateFault.{TemplateFault}
-use Rattle.flow_templates.specs.declared.template.TemplateFault.TheVariants.{TemplateId, TemplateCut, TemplateEmpty, FieldWidth, ScopeCount}
+use Rattle.flow_templates.specs.declared.template.TemplateFault.TheVariants.{TemplateId, TemplateCut, TemplateEmpty, FieldWidth, ScopeCount, NoMemory}
 use Rattle.flow_templates.specs.Elements.{is_allowed}
 
 -- the fewest octets of a field: in IPFIX the width 65535 stands for a width that each record tells, in one octet at least
@@ -26,17 +26,11 @@ judged_fields version scope_fields fields = if version == 9 then drop scope_fiel
 abbrev pub has_allowed_widths : ℕ → Template → Bool
 has_allowed_widths version template = list_all (is_allowed version) (judged_fields version template.scope_fields template.fields)
 
--- A template as an accepted record has it: only widths that are allowed, and records of one octet at least.
+-- What each accepted template has: only widths that are allowed, and records of one octet at least.
 abbrev pub is_accepted : ℕ → Template → Bool
 is_accepted version template =
     nat_le template.scope_fields (length template.fields) && nat_le (length template.fields) 65535
     && has_allowed_widths version template && nat_le 1 (least_length version template.fields)
-
--- what a record defines is an accepted template
-abbrev pub DefinesAccepted : ℕ → TemplateWhat → Type 0
-DefinesAccepted version (Defined template) = is_accepted version template ≡ true
-DefinesAccepted version Withdrawn = Unit {0}
-DefinesAccepted version AllWithdrawn = Unit {0}
 
 -- in IPFIX the first bit of a field says that an enterprise defined its element
 abbrev pub has_enterprise : ℕ → List ℕ → Bool
@@ -101,6 +95,14 @@ field_count version options octets = if counts_octets version options then first
 abbrev pub record_length : ℕ → Bool → List ℕ → ℕ
 record_length version options octets = head_length options + fields_length version (field_count version options octets) (drop (head_length options) octets)
 
+-- the template of a record that defines one
+abbrev pub template_of : ℕ → Bool → List ℕ → Template
+template_of version options octets = record {
+  options = options;
+  scope_fields = scope_count version options octets;
+  fields = fields_of version (field_count version options octets) (drop (head_length options) octets);
+}
+
 -- in IPFIX, a record that withdraws
 abbrev pub is_withdrawal : ℕ → List ℕ → Bool
 is_withdrawal version octets = version == 10 && first_count octets == 0
@@ -122,11 +124,7 @@ definition_record version options octets =
     if has_no_field version options octets then Err TemplateEmpty
     else (if has_faulty_scope version options octets then Err ScopeCount
     else (if not (has_whole_fields version options octets) || nat_lt (length octets) (record_length version options octets) then Err TemplateCut
-    else judged version (number_at octets 0 2) (record_length version options octets) (record {
-      options = options;
-      scope_fields = scope_count version options octets;
-      fields = fields_of version (field_count version options octets) (drop (head_length options) octets);
-    })))
+    else judged version (number_at octets 0 2) (record_length version options octets) (template_of version options octets)))
 
 -- The record at the front of a set's octets, of a template or of an options template, or the first fault. Each part is judged where its
 -- octets are there.
@@ -138,3 +136,35 @@ template_record version options octets =
     else (if is_withdrawal version octets then Ok (record { id = number_at octets 0 2; used = 4; what = Withdrawn })
     else (if nat_lt (length octets) (head_length options) then Err TemplateCut
     else definition_record version options octets))))
+
+-- the octets of a record, or its fault
+abbrev pub length_or_fault : Result TemplateTurn TemplateFault → Result ℕ TemplateFault
+length_or_fault (Ok turn) = Ok turn.used
+length_or_fault (Err fault) = Err fault
+
+-- what a record without a fault says of its id
+abbrev pub what_of : ℕ → Bool → List ℕ → TemplateWhat
+what_of version options octets =
+    if is_withdrawal version octets then (if number_at octets 0 2 == all_of_kind options then AllWithdrawn else Withdrawn)
+    else Defined (template_of version options octets)
+
+-- A reader answers the record, or its fault; it wants memory only where there is no fault.
+abbrev pub Reads : Result TemplateTurn TemplateFault → Result TemplateTurn TemplateFault → Type 0
+Reads (Ok turn) wanted = wanted ≡ Ok turn
+Reads (Err NoMemory) wanted = IsOk wanted
+Reads (Err fault) wanted = wanted ≡ Err fault
+
+-- A template as an accepted record of this version defines it: there are octets of a record that is read as this template.
+pub record IsDefined (version : ℕ) (template : Template) : Type 0 where
+  pub known : (version ≡ 9) ⊎ (version ≡ 10)
+  pub octets : List ℕ
+  pub each : (place : ℕ) → slice_index octets place < 256
+  pub id : ℕ
+  pub used : ℕ
+  pub read : template_record version template.options octets ≡ Ok (record { id = id; used = used; what = Defined template })
+
+-- a template that a record defines is one that an accepted record defines
+abbrev pub DefinesAccepted : ℕ → TemplateWhat → Type 0
+DefinesAccepted version (Defined template) = IsDefined version template
+DefinesAccepted version Withdrawn = Unit {0}
+DefinesAccepted version AllWithdrawn = Unit {0}

@@ -1,7 +1,6 @@
 //! The elements that are read, with the widths that each may have (IANA's registry of IPFIX information elements).
 
-ghost use Rattle.std.specs.Prelude.{◌≡◌, ◌≤◌, length};
-ghost use Rattle.std.specs.List.{list_all};
+ghost use Rattle.std.specs.Prelude.{◌≡◌};
 ghost use Rattle.flow_templates.specs.Elements.{is_allowed, is_width};
 
 use crate::FieldSpec;
@@ -38,15 +37,9 @@ fn is_width(version: u16, element: u16, width: u16) -> bool
     }
 }
 
-fn is_allowed(version: u16, field: &FieldSpec) -> bool
+/// A field has a width that its element may have. The element of an enterprise isn't read.
+pub(crate) fn is_allowed(version: u16, field: &FieldSpec) -> bool
     ensures { result ≡ is_allowed version field.now }
 {
     field.enterprise.is_some() || is_width(version, field.element, field.width)
-}
-
-/// Each field that is read has a width that its element may have.
-pub(crate) fn are_allowed(version: u16, fields: &[FieldSpec]) -> bool
-    ensures { result ≡ list_all (is_allowed version) fields.now }
-{
-    fields.iter().all(|field| is_allowed(version, field))
 }

@@ -19,7 +19,7 @@ mod tests;
 pub use change::{TemplateChange, changes_add_up};
 pub use decoded::{Notice, NoticeCause, RawDecoded, RawRecord};
 pub use rate::{LearnedRate, OptionStore, RateKey, rates_add_up};
-pub use reading::{read_options_template, read_template};
+pub use reading::{judge_template, read_options_template, read_template};
 pub use refusal::{Cause, Undecodable};
 pub use staged::{Staged, Stores};
 pub use store::TemplateStore;

@@ -1,10 +1,12 @@
 //! Template records of NetFlow version 9 (RFC 3954, 5.2 and 6.1) and of IPFIX (RFC 7011, 3.4 and 8.1).
 
-ghost use Rattle.std.specs.Prelude.{◌≡◌, ◌≢◌, ◌≤◌, ◌<◌, ◌⊎◌, ◌*◌, ◌+◌, length, drop, IfOk, IfErr, IfSome, None, Ok, Err, true, false};
-ghost use Rattle.flow_templates.specs.Templates.{all_of_kind, definition_record, field_count, field_length, field_of, fields_length, fields_of, has_enterprise, has_faulty_scope, has_no_field, has_whole_fields, head_length, is_withdrawal, judged, record_length, scope_count, DefinesAccepted, template_record};
+ghost use Rattle.std.specs.Prelude.{◌≡◌, ◌≢◌, ◌==◌, ◌&&◌, ◌||◌, ◌≤◌, ◌<◌, ◌⊎◌, ◌*◌, length, nat_lt, is_some, IfOk, IfSome, IsOk, None, Err, true, false};
+ghost use Rattle.std.specs.List.{list_all};
+ghost use Rattle.flow_templates.specs.Elements.{is_allowed};
+ghost use Rattle.flow_templates.specs.Templates.{all_of_kind, definition_record, field_count, field_length, field_of, fields_length, fields_of, has_enterprise, has_faulty_scope, has_no_field, has_whole_fields, head_length, is_withdrawal, judged_fields, least_length, length_or_fault, scope_count, what_of, DefinesAccepted, Reads, template_record};
 
-use crate::elements::are_allowed;
-use crate::template::{fields_to_judge, least_length_of};
+use crate::elements::is_allowed;
+use crate::template::least_width;
 use crate::{FieldSpec, Template, TemplateFault, TemplateTurn, TemplateWhat};
 use acct_types::numbers::{after, u16_at, u32_at};
 use acct_types::{List, NoMemory};
@@ -96,35 +98,30 @@ fn read_fields(
     Ok(List::from_vec(fields))
 }
 
-// A record whose octets are whole.
-fn judge(
-    version: u16,
-    id: u16,
-    used: u32,
-    template: Template,
-) -> Result<TemplateTurn, TemplateFault>
-    requires scope { template.scope_fields ≤ length template.fields }
-    requires few { length template.fields ≤ 65535 }
-    ensures ok { IfOk result (λ turn. judged version id used template ≡ Ok turn) }
-    ensures err { IfErr result (λ fault. judged version id used template ≡ Err fault) }
-    ensures accepted { IfOk result (λ turn. DefinesAccepted version turn.what) }
-    ensures used { IfOk result (λ turn. turn.used ≡ used) }
+// In version 9 the fields of the scope are skipped by their place.
+fn is_passed(version: u16, scope: u16, index: u16, field: &FieldSpec) -> bool
+    ensures { result ≡ (version == 9 && nat_lt index scope || is_allowed version field.now) }
 {
-    let fields = template.fields.as_slice();
-    if !are_allowed(
-        version,
-        fields_to_judge(version, template.scope_fields, fields),
-    ) {
-        return Err(TemplateFault::FieldWidth);
+    version == 9 && index < scope || is_allowed(version, field)
+}
+
+// The fewest octets of a record with so many fields, of which some are the scope: None where a width isn't allowed.
+fn judge_fields(version: u16, scope: u16, count: u16, octets: &[u8]) -> Option<u32>
+    requires { fields_length version count octets.now ≤ length octets.now }
+    ensures widths { list_all (is_allowed version) (judged_fields version scope (fields_of version count octets.now)) ≡ is_some result }
+    ensures least { IfSome result (λ least. least ≡ least_length version (fields_of version count octets.now)) }
+{
+    let mut least = 0u32;
+    let mut rest = octets;
+    for index in 0..count {
+        let field = read_field(version, rest);
+        if !is_passed(version, scope, index, &field) {
+            return None;
+        }
+        least += u32::from(least_width(version, &field));
+        rest = after(rest, usize::from(field_length(version, rest)));
     }
-    if least_length_of(version, fields) == 0 {
-        return Err(TemplateFault::TemplateEmpty);
-    }
-    Ok(TemplateTurn {
-        id,
-        used,
-        what: TemplateWhat::Defined(template),
-    })
+    Some(least)
 }
 
 fn is_withdrawal(version: u16, octets: &[u8]) -> bool
@@ -191,21 +188,12 @@ fn field_count(version: u16, options: bool, octets: &[u8]) -> u16
     }
 }
 
-// A record of either kind that defines a template, and whose head is whole.
+// The octets of a record of either kind that defines a template, and whose head is whole, or its first fault.
 #[tactic(auto, unfolding(crate::specs::Templates::definition_record))]
-fn read_definition(
-    alloc: Global,
-    version: u16,
-    options: bool,
-    octets: &[u8],
-) -> Result<TemplateTurn, TemplateFault>
-    requires version { (version ≡ 9) ⊎ (version ≡ 10) }
-    requires head { head_length options ≤ length octets.now }
-    ensures ok { IfOk result (λ turn. definition_record version options octets.now ≡ Ok turn) }
-    ensures err { IfErr result (λ fault. fault ≢ TemplateFault.NoMemory → definition_record version options octets.now ≡ Err fault) }
-    ensures accepted { IfOk result (λ turn. DefinesAccepted version turn.what) }
-    ensures used { IfOk result (λ turn. turn.used ≡ record_length version options octets.now) }
-    ensures within { IfOk result (λ turn. turn.used ≤ length octets.now) }
+fn judge_definition(version: u16, options: bool, octets: &[u8]) -> Result<u32, TemplateFault>
+    requires { head_length options ≤ length octets.now }
+    ensures judged { result ≡ length_or_fault (definition_record version options octets.now) }
+    ensures no_memory { result ≢ Err TemplateFault.NoMemory }
 {
     if has_no_field(version, options, octets) {
         return Err(TemplateFault::TemplateEmpty);
@@ -222,31 +210,21 @@ fn read_definition(
     let Some(used) = fields_length(version, count, rest) else {
         return Err(TemplateFault::TemplateCut);
     };
-    let Ok(fields) = read_fields(alloc, version, count, rest) else {
-        return Err(TemplateFault::NoMemory);
+    let scope = scope_count(version, options, octets);
+    let Some(least) = judge_fields(version, scope, count, rest) else {
+        return Err(TemplateFault::FieldWidth);
     };
-    let template = Template {
-        options,
-        scope_fields: scope_count(version, options, octets),
-        fields,
-    };
-    judge(version, u16_at(octets, 0), u32::from(head) + used, template)
+    if least == 0 {
+        return Err(TemplateFault::TemplateEmpty);
+    }
+    Ok(u32::from(head) + used)
 }
 
-// A record of either kind.
+// The octets of a record of either kind, or its first fault.
 #[tactic(auto, unfolding(crate::specs::Templates::template_record))]
-fn read_record(
-    alloc: Global,
-    version: u16,
-    options: bool,
-    octets: &[u8],
-) -> Result<TemplateTurn, TemplateFault>
-    requires { (version ≡ 9) ⊎ (version ≡ 10) }
-    ensures ok { IfOk result (λ turn. template_record version options octets.now ≡ Ok turn) }
-    ensures err { IfErr result (λ fault. fault ≢ TemplateFault.NoMemory → template_record version options octets.now ≡ Err fault) }
-    ensures accepted { IfOk result (λ turn. DefinesAccepted version turn.what) }
-    ensures least { IfOk result (λ turn. 4 ≤ turn.used) }
-    ensures within { IfOk result (λ turn. turn.used ≤ length octets.now) }
+fn judge_record(version: u16, options: bool, octets: &[u8]) -> Result<u32, TemplateFault>
+    ensures judged { result ≡ length_or_fault (template_record version options octets.now) }
+    ensures no_memory { result ≢ Err TemplateFault.NoMemory }
 {
     if octets.len() < 4 {
         return Err(TemplateFault::TemplateCut);
@@ -254,40 +232,83 @@ fn read_record(
     let id = u16_at(octets, 0);
     let withdraws = is_withdrawal(version, octets);
     if withdraws && id == all_of_kind(options) {
-        return Ok(TemplateTurn {
-            id,
-            used: 4,
-            what: TemplateWhat::AllWithdrawn,
-        });
+        return Ok(4);
     }
     if id < 256 {
         return Err(TemplateFault::TemplateId);
     }
     if withdraws {
-        return Ok(TemplateTurn {
-            id,
-            used: 4,
-            what: TemplateWhat::Withdrawn,
-        });
+        return Ok(4);
     }
     if octets.len() < usize::from(head_length(options)) {
         return Err(TemplateFault::TemplateCut);
     }
-    read_definition(alloc, version, options, octets)
+    judge_definition(version, options, octets)
+}
+
+// What a record of either kind says that has no fault.
+fn read_what(
+    alloc: Global,
+    version: u16,
+    options: bool,
+    octets: &[u8],
+) -> Result<TemplateWhat, NoMemory>
+    requires { IsOk (template_record version options octets.now) }
+    ensures { IfOk result (λ what. what ≡ what_of version options octets.now) }
+{
+    if is_withdrawal(version, octets) {
+        return Ok(if u16_at(octets, 0) == all_of_kind(options) {
+            TemplateWhat::AllWithdrawn
+        } else {
+            TemplateWhat::Withdrawn
+        });
+    }
+    let count = field_count(version, options, octets);
+    let rest = after(octets, usize::from(head_length(options)));
+    let fields = read_fields(alloc, version, count, rest)?;
+    Ok(TemplateWhat::Defined(Template {
+        options,
+        scope_fields: scope_count(version, options, octets),
+        fields,
+    }))
+}
+
+// A record of either kind: memory is wanted only for one without a fault.
+fn read_record(
+    alloc: Global,
+    version: u16,
+    options: bool,
+    octets: &[u8],
+) -> Result<TemplateTurn, TemplateFault>
+    requires { (version ≡ 9) ⊎ (version ≡ 10) }
+    ensures answer { Reads result (template_record version options octets.now) }
+    ensures accepted { IfOk result (λ turn. DefinesAccepted version turn.what) }
+    ensures least { IfOk result (λ turn. 4 ≤ turn.used) }
+    ensures within { IfOk result (λ turn. turn.used ≤ length octets.now) }
+{
+    let used = match judge_record(version, options, octets) {
+        Ok(used) => used,
+        Err(fault) => return Err(fault),
+    };
+    let id = u16_at(octets, 0);
+    let Ok(what) = read_what(alloc, version, options, octets) else {
+        return Err(TemplateFault::NoMemory);
+    };
+    Ok(TemplateTurn { id, used, what })
 }
 
 /// The template record at the front of the octets of a set. Below four octets it is TemplateCut. Then, in this order: in
 /// IPFIX id 2 without fields withdraws all templates but the options ones; an id below 256 is TemplateId; in IPFIX no field
 /// withdraws the id, and in version 9 it is TemplateEmpty; a record that passes the end is TemplateCut; a width that isn't
-/// allowed is FieldWidth; and records that may have no octet are TemplateEmpty.
+/// allowed is FieldWidth; and records that may have no octet are TemplateEmpty. Memory is wanted only for a record without a
+/// fault.
 pub fn read_template(
     alloc: Global,
     version: u16,
     octets: &[u8],
 ) -> Result<TemplateTurn, TemplateFault>
     requires { (version ≡ 9) ⊎ (version ≡ 10) }
-    ensures ok { IfOk result (λ turn. template_record version false octets.now ≡ Ok turn) }
-    ensures err { IfErr result (λ fault. fault ≢ TemplateFault.NoMemory → template_record version false octets.now ≡ Err fault) }
+    ensures answer { Reads result (template_record version false octets.now) }
     ensures accepted { IfOk result (λ turn. DefinesAccepted version turn.what) }
     ensures least { IfOk result (λ turn. 4 ≤ turn.used) }
     ensures within { IfOk result (λ turn. turn.used ≤ length octets.now) }
@@ -304,11 +325,21 @@ pub fn read_options_template(
     octets: &[u8],
 ) -> Result<TemplateTurn, TemplateFault>
     requires { (version ≡ 9) ⊎ (version ≡ 10) }
-    ensures ok { IfOk result (λ turn. template_record version true octets.now ≡ Ok turn) }
-    ensures err { IfErr result (λ fault. fault ≢ TemplateFault.NoMemory → template_record version true octets.now ≡ Err fault) }
+    ensures answer { Reads result (template_record version true octets.now) }
     ensures accepted { IfOk result (λ turn. DefinesAccepted version turn.what) }
     ensures least { IfOk result (λ turn. 4 ≤ turn.used) }
     ensures within { IfOk result (λ turn. turn.used ≤ length octets.now) }
 {
     read_record(alloc, version, true, octets)
+}
+
+/// The octets of the template record at the front of the octets of a set, of an options template or of another, or its first
+/// fault, as they are read. It takes no memory.
+pub fn judge_template(version: u16, options: bool, octets: &[u8]) -> Result<u32, TemplateFault>
+    ensures judged { result ≡ length_or_fault (template_record version options octets.now) }
+    ensures no_memory { result ≢ Err TemplateFault.NoMemory }
+    ensures least { IfOk result (λ used. 4 ≤ used) }
+    ensures within { IfOk result (λ used. used ≤ length octets.now) }
+{
+    judge_record(version, options, octets)
 }

@@ -3,10 +3,12 @@ ghost use Rattle.std.specs.Option.{option_copied};
 ghost use Rattle.flow_templates.specs.declared.change.TemplateChange.TheVariants as change;
 ghost use Rattle.flow_templates.specs.Changes.{and_change, and_rate, key_of, nothing_staged};
 ghost use Rattle.flow_templates.specs.Known.{known_after, known_in, learned_of, nothing_known, rate_key_of};
-ghost use Rattle.flow_templates.specs.Templates.{is_accepted};
+ghost use Rattle.flow_templates.specs.Templates.{IsDefined, is_accepted};
 
 use crate::noted::{NotedChanges, NotedRates};
-use crate::{Domain, LearnedRate, OptionStore, RateKey, Template, TemplateChange, TemplateKey, TemplateStore};
+use crate::{
+    Domain, LearnedRate, OptionStore, RateKey, Template, TemplateChange, TemplateKey, TemplateStore,
+};
 use acct_types::NoMemory;
 use std::alloc::Global;
 use std::marker::Model;
@@ -41,15 +43,13 @@ pub struct Staged {
 }
 
 impl Model for Staged {
-    ghost use Rattle.std.specs.Prelude.{◌≡◌, true};
-    ghost use Rattle.std.specs.List.{list_all};
-    ghost use Rattle.flow_templates.specs.Changes.{StagedChanges, is_accepted_change};
+    ghost use Rattle.flow_templates.specs.Changes.{PutDefined, StagedChanges};
 
     ghost Value = { StagedChanges };
 
     ghost view = { λ staged. record { templates = staged.changes; rates = staged.rates } };
 
-    ghost invariant = { λ staged. list_all is_accepted_change staged.changes ≡ true };
+    ghost invariant = { λ staged. PutDefined staged.changes };
 }
 
 impl Staged {
@@ -71,7 +71,7 @@ impl Staged {
 
     /// Notes behind the earlier changes that a template is put. After NoMemory nothing has changed.
     pub fn put(&mut self, domain: &Domain, id: u16, template: Template) -> Result<(), NoMemory>
-        requires { is_accepted domain.now.version template ≡ true }
+        requires { IsDefined domain.now.version template }
         ensures ok { OnOk result (self.new ≡ and_change self.old (change.Put (key_of domain.now id) template)) }
         ensures err { OnErr result (self.new ≡ self.old) }
     {
@@ -115,6 +115,7 @@ impl Staged {
     /// The template that the stores would find after these changes.
     pub fn find<'a>(&'a self, stores: &'a Stores, domain: &Domain, id: u16) -> Option<&'a Template>
         ensures found { option_copied result ≡ (known_after (known_in stores.now) self.now).template (key_of domain.now id) }
+        ensures defined { IfSome result (λ template. IsDefined domain.now.version template.now) }
         ensures accepted { IfSome result (λ template. is_accepted domain.now.version template.now ≡ true) }
     {
         let key = TemplateKey::new(domain, id);

@@ -1,12 +1,11 @@
 ghost use Rattle.std.specs.Prelude.{◌≡◌, ◌+◌, [], true, OnOk, OnErr, IfSome, length};
-ghost use Rattle.std.specs.List.{list_all};
 ghost use Rattle.std.specs.Option.{option_copied};
 ghost use Rattle.indexmap.specs.IndexMap.{IsUnique};
 ghost use Rattle.flow_templates.specs.declared.change.TemplateChange.TheVariants as change;
-ghost use Rattle.flow_templates.specs.Changes.{Changes, ChangesAll, found, is_accepted_change, key_of};
+ghost use Rattle.flow_templates.specs.Changes.{Changes, ChangesAll, PutDefined, found, key_of};
 ghost use Rattle.flow_templates.specs.Domains.{HasRoom, HasRoomFor, HaveRoom, entries_of};
 ghost use Rattle.flow_templates.specs.Known.{LearnsAll};
-ghost use Rattle.flow_templates.specs.Templates.{is_accepted};
+ghost use Rattle.flow_templates.specs.Templates.{IsDefined, is_accepted};
 
 use crate::domain_templates::DomainTemplates;
 use crate::{Domain, LearnedRate, OptionStore, Template, TemplateChange, TemplateKey};
@@ -15,8 +14,8 @@ use indexmap::IndexMap;
 use std::alloc::Global;
 use std::marker::Model;
 
-/// The templates in force, which contracts see as their entries: what counts is what is found under a key. Each is the
-/// template of an accepted record. They are kept domain by domain, so that what a domain's exporter withdraws takes no
+/// The templates in force, which contracts see as their entries: what counts is what is found under a key. Each is
+/// exactly what an accepted record defines. They are kept domain by domain, so that what a domain's exporter withdraws takes no
 /// look at another's templates.
 #[derive(Drop)]
 pub struct TemplateStore {
@@ -148,7 +147,7 @@ impl TemplateStore {
 
     /// Keeps a template in place of the one of that domain and id. After NoMemory the store is unchanged.
     pub fn put(&mut self, domain: &Domain, id: u16, template: Template) -> Result<(), NoMemory>
-        requires { is_accepted domain.now.version template ≡ true }
+        requires { IsDefined domain.now.version template }
         ensures ok { OnOk result (Changes self.old self.new (change.Put (key_of domain.now id) template)) }
         ensures err { OnErr result (self.new ≡ self.old) }
     {
@@ -174,6 +173,7 @@ impl TemplateStore {
     /// The template of a domain and id, None exactly where none is kept.
     pub fn find(&self, domain: &Domain, id: u16) -> Option<&Template>
         ensures found { option_copied result ≡ found self.now (key_of domain.now id) }
+        ensures defined { IfSome result (λ template. IsDefined domain.now.version template.now) }
         ensures accepted { IfSome result (λ template. is_accepted domain.now.version template.now ≡ true) }
     {
         let Some(templates) = self.domains.get(domain) else {
@@ -189,7 +189,7 @@ impl TemplateStore {
         options: &mut OptionStore,
         learned: &[LearnedRate],
     ) -> Result<(), NoMemory>
-        requires { list_all is_accepted_change changes.items ≡ true }
+        requires { PutDefined changes.items }
         ensures templates { OnOk result (ChangesAll self.old self.new changes.items) }
         ensures rates { OnOk result (LearnsAll options.old options.new learned.now) }
         ensures templates_stay { OnErr result (self.new ≡ self.old) }

@@ -1,8 +1,7 @@
 ghost use Rattle.std.specs.Prelude.{◌≡◌, ◌≤◌, length};
 ghost use Rattle.flow_templates.specs.Keys.{key_of};
-ghost use Rattle.flow_templates.specs.Templates.{is_accepted, judged_fields, least_length, least_width};
+ghost use Rattle.flow_templates.specs.Templates.{least_length, least_width};
 
-use crate::elements::are_allowed;
 use acct_types::{Addr, List, NoMemory};
 
 /// Where the ids of templates are apart: an exporter, its version of NetFlow (10 for IPFIX), and its source id (RFC 3954, 5.1)
@@ -92,8 +91,8 @@ pub struct TemplateTurn {
     pub what: TemplateWhat,
 }
 
-// The fewest octets of a field. In IPFIX the width 65535 says that each record tells its own (RFC 7011, 7).
-fn least_width(version: u16, field: &FieldSpec) -> u16
+/// The fewest octets of a field. In IPFIX the width 65535 says that each record tells its own (RFC 7011, 7).
+pub(crate) fn least_width(version: u16, field: &FieldSpec) -> u16
     ensures { result ≡ least_width version field.now }
 {
     if version == 10 && field.width == 65535 {
@@ -115,31 +114,7 @@ pub(crate) fn least_length_of(version: u16, fields: &[FieldSpec]) -> u32
     octets
 }
 
-// In version 9 the fields of the scope are skipped by their place, whatever their elements.
-pub(crate) fn fields_to_judge(version: u16, scope_fields: u16, fields: &[FieldSpec]) -> &[FieldSpec]
-    requires { scope_fields ≤ length fields.now }
-    ensures { result.now ≡ judged_fields version scope_fields fields.now }
-{
-    if version == 9 {
-        &fields[usize::from(scope_fields)..]
-    } else {
-        fields
-    }
-}
-
 impl Template {
-    /// Whether an accepted record of this version may define this template: its widths are allowed, and each record that
-    /// it describes has an octet at least.
-    pub fn is_accepted(&self, version: u16) -> bool
-        ensures { result ≡ is_accepted version self.now }
-    {
-        let fields = self.fields.as_slice();
-        usize::from(self.scope_fields) <= fields.len()
-            && fields.len() <= 65535
-            && are_allowed(version, fields_to_judge(version, self.scope_fields, fields))
-            && least_length_of(version, fields) >= 1
-    }
-
     /// The fewest octets of a record that this template describes.
     pub fn least_length(&self, version: u16) -> u32
         requires { length self.now.fields ≤ 65535 }

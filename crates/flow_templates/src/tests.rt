@@ -1,7 +1,10 @@
-ghost use Rattle.std.specs.Prelude.{◌≡◌, true, IfOk};
-ghost use Rattle.flow_templates.specs.Templates.{is_accepted};
+ghost use Rattle.std.specs.Prelude.{◌≡◌, ◌⊎◌, IfOk};
+ghost use Rattle.flow_templates.specs.Templates.{DefinesAccepted, IsDefined};
 
-use crate::{Domain, Staged, Stores, Template, TemplateFault, TemplateTurn, TemplateWhat, read_options_template, read_template};
+use crate::{
+    Domain, Staged, Stores, Template, TemplateFault, TemplateTurn, TemplateWhat,
+    read_options_template, read_template,
+};
 use acct_types::Addr;
 use std::alloc::Global;
 use std::test::Fail;
@@ -50,36 +53,39 @@ fn other_version() -> Domain
     }
 }
 
-fn defined(turn: TemplateTurn) -> Result<Template, Fail> {
+fn defined(turn: TemplateTurn) -> Result<Template, Fail>
+    ensures { (version : _) → DefinesAccepted version turn.what → IfOk result (λ template. IsDefined version template) }
+{
     match turn.what {
         TemplateWhat::Defined(template) => Ok(template),
         _ => Err("no template".into()),
     }
 }
 
-fn addresses(alloc: Global) -> Result<Template, Fail> {
-    let turn = read_template(alloc, 9, &ADDRESSES).map_err(|_| "refused")?;
+fn addresses(alloc: Global, version: u16) -> Result<Template, Fail>
+    requires { (version ≡ 9) ⊎ (version ≡ 10) }
+    ensures { IfOk result (λ template. IsDefined version template) }
+{
+    let turn = read_template(alloc, version, &ADDRESSES).map_err(|_| "refused")?;
     defined(turn)
 }
 
-fn samplers(alloc: Global) -> Result<Template, Fail> {
+fn samplers(alloc: Global) -> Result<Template, Fail>
+    ensures { IfOk result (λ template. IsDefined 9 template) }
+{
     let turn = read_options_template(alloc, 9, &SAMPLERS).map_err(|_| "refused")?;
     defined(turn)
 }
 
 // An options template, or another.
 fn accepted(alloc: Global, options: bool) -> Result<Template, Fail>
-    ensures { IfOk result (λ template. is_accepted 9 template ≡ true) }
+    ensures { IfOk result (λ template. IsDefined 9 template) }
 {
-    let template = if options {
-        samplers(alloc)?
+    if options {
+        samplers(alloc)
     } else {
-        addresses(alloc)?
-    };
-    if !template.is_accepted(9) {
-        return Err("not accepted".into());
+        addresses(alloc, 9)
     }
-    Ok(template)
 }
 
 fn kind_of(found: Option<&Template>) -> Option<bool> {
@@ -310,10 +316,7 @@ fn an_id_is_one_of_its_domain(rt: HostRuntime) -> Result<(), Fail> {
 fn the_same_id_elsewhere_is_another_template(rt: HostRuntime) -> Result<(), Fail> {
     let mut stores = Stores::new(rt.alloc());
     let store = &mut stores.templates;
-    let other = addresses(rt.alloc())?;
-    if !other.is_accepted(10) {
-        return Err("not accepted".into());
-    }
+    let other = addresses(rt.alloc(), 10)?;
     store.put(&other_version(), 300, other)?;
     store.put(&other_exporter(), 300, accepted(rt.alloc(), OPTIONS)?)?;
     assert_eq!(rt; kind_of(store.find(&domain(1), 300)), None);

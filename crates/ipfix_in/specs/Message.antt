@@ -1,5 +1,5 @@
 -- An IPFIX message (RFC 7011, 3.1): a header of 16 octets, and sets up to the message's length.
-use Rattle.std.specs.Prelude.{ℕ, ◌==◌, ◌||◌, nat_lt, List, length, drop, take, Result, Err, if◌then◌else◌, not}
+use Rattle.std.specs.Prelude.{ℕ, ◌≡◌, ◌≤◌, ◌==◌, ◌||◌, nat_lt, List, length, drop, take, Result, Err, if◌then◌else◌, not}
 use Rattle.acct_types.specs.Numbers.{number_at}
 use Rattle.acct_types.specs.declared.addr.Addr.{Addr}
 use Rattle.flow_templates.specs.declared.refusal.Cause.{Cause}
@@ -7,7 +7,7 @@ use Rattle.flow_templates.specs.declared.refusal.Cause.TheVariants.{IpfixLength,
 use Rattle.flow_templates.specs.declared.template.Domain.{Domain}
 use Rattle.flow_templates.specs.Decoding.{Said}
 use Rattle.flow_templates.specs.Known.{Known}
-use Rattle.flow_sets.specs.Sets.{sets_said}
+use Rattle.flow_sets.specs.Sets.{AcceptsSome, sets_said}
 
 -- Header: version (2 octets), length (2), export time (4), sequence number (4), observation domain id (4).
 abbrev pub version_of : List ℕ → ℕ
@@ -27,3 +27,9 @@ decoded_ipfix known exporter octets =
     else (if nat_lt (length octets) 16 then Err Short
     else (if nat_lt (length_of octets) 16 || nat_lt (length octets) (length_of octets) then Err IpfixLength
     else sets_said (domain_of exporter octets) known (drop 16 (take (length_of octets) octets)))))
+
+-- Some of the message's sets, the first ones, are accepted.
+pub record AcceptsSomeSets (known : Known) (exporter : Addr) (octets : List ℕ) : Type 0 where
+  pub version : version_of octets ≡ 10
+  pub whole : length_of octets ≤ length octets
+  pub sets : AcceptsSome (domain_of exporter octets) known (drop 16 (take (length_of octets) octets))

@@ -1,11 +1,12 @@
 //! IPFIX messages (RFC 7011).
 
-ghost use Rattle.std.specs.Prelude.{◌≡◌, ◌≤◌, ◌^◌, All, length, IfOk};
+ghost use Rattle.std.specs.Prelude.{◌≡◌, ◌≤◌, ◌^◌, All, Err, length, IfOk};
 ghost use Rattle.acct_types.specs.Counts.{IsBelow};
 ghost use Rattle.flow_templates.specs.Changes.{nothing_staged};
+ghost use Rattle.flow_templates.specs.declared.refusal.Undecodable.TheVariants as undecodable;
 ghost use Rattle.flow_templates.specs.Decoding.{Gives};
 ghost use Rattle.flow_templates.specs.Known.{known_in};
-ghost use Rattle.ipfix_in.specs.Message.{decoded_ipfix, domain_of};
+ghost use Rattle.ipfix_in.specs.Message.{AcceptsSomeSets, decoded_ipfix, domain_of};
 
 use acct_types::Addr;
 use acct_types::numbers::{after, u16_at, u32_at};
@@ -42,6 +43,7 @@ pub fn decode_ipfix(
     requires unstaged { staged.old ≡ nothing_staged }
     requires fits { length octets.now ≤ 65535 }
     ensures answer { Gives result staged.new (decoded_ipfix (known_in stores.now) exporter.now octets.now) }
+    ensures memory { result ≡ Err undecodable.NoMemory → AcceptsSomeSets (known_in stores.now) exporter.now octets.now }
     ensures few { IfOk result (λ decoded. length decoded.rows ≤ length octets.now) }
     ensures counts { IfOk result (λ decoded. All (λ row. IsBelow (2 ^ 64) row.flow.counts) decoded.rows) }
 {

@@ -1,8 +1,9 @@
 //! NetFlow version 5, as Cisco's NetFlow export datagram format lays it out.
 
-ghost use Rattle.std.specs.Prelude.{◌≡◌, ◌≤◌, ◌*◌, ◌^◌, All, length, IfOk};
+ghost use Rattle.std.specs.Prelude.{◌≡◌, ◌≤◌, ◌*◌, ◌^◌, All, Err, length, IfOk, IsOk};
 ghost use Rattle.acct_types.specs.Counts.{IsBelow};
 ghost use Rattle.flow_templates.specs.Changes.{nothing_staged};
+ghost use Rattle.flow_templates.specs.declared.refusal.Undecodable.TheVariants as undecodable;
 ghost use Rattle.flow_templates.specs.Decoding.{Gives, rows_alone};
 ghost use Rattle.netflow_in.specs.Version5.{decoded_v5, flow_of, rate_of, records_of, source_of};
 
@@ -100,6 +101,7 @@ fn read_records(
 #[tactic(auto, unfolding(crate::specs::Version5::decoded_v5))]
 pub fn decode_v5(alloc: Global, exporter: &Addr, octets: &[u8]) -> Result<RawDecoded, Undecodable>
     ensures answer { Gives result nothing_staged (rows_alone (decoded_v5 exporter.now octets.now)) }
+    ensures memory { result ≡ Err undecodable.NoMemory → IsOk (decoded_v5 exporter.now octets.now) }
     ensures few { IfOk result (λ decoded. length decoded.rows ≤ 30) }
     ensures within { IfOk result (λ decoded. length decoded.rows ≤ length octets.now) }
     ensures counts { IfOk result (λ decoded. All (λ row. IsBelow (2 ^ 64) row.flow.counts) decoded.rows) }

@@ -1,7 +1,7 @@
 -- What the samples so far say, and those that are left.
 use Rattle.std.proofs.Common.{◌≡◌, ◌+◌, ◌-◌, ◌<◌, ◌≤◌, ◌++◌, ◌^◌, ◌∙◌, ℕ, List, All, length, refl, sym, ap, arith, append_assoc, append-nil}
 use Rattle.std.proofs.lemmas.List.Elements.{All-push}
-use Rattle.std.specs.Prelude.{Result, Ok, Err, false}
+use Rattle.std.specs.Prelude.{[], IsOk, Result, Ok, Err, false}
 use Rattle.acct_types.specs.Counts.{IsBelow}
 use Rattle.acct_types.specs.declared.addr.Addr.{Addr}
 use Rattle.flow_templates.specs.Changes.{nothing_staged}
@@ -12,7 +12,7 @@ use Rattle.flow_templates.specs.declared.refusal.Cause.{Cause}
 use Rattle.flow_templates.specs.declared.refusal.Cause.TheVariants.{SampleCut}
 use Rattle.sflow_in.specs.declared.sample.Sample.{Sample}
 use Rattle.sflow_in.specs.declared.sample.Sample.TheVariants.{Row, Note, Nothing}
-use Rattle.sflow_in.specs.Samples.{GivesSmall, notices_in, notices_of, rows_in, rows_of, sample_of, samples_of}
+use Rattle.sflow_in.specs.Samples.{GivesSmall, notices_in, notices_of, rows_in, rows_of, said_in, sample_of, samples_of}
 use Rattle.sflow_in.specs.Xdr.{before, body_of, format_of, is_cut, rest_of}
 use Rattle.sflow_in.proofs.PieceLemmas.{pieces_next}
 
@@ -50,6 +50,25 @@ said_refused exporter source rows notices cause count i octets all h whole is ke
     let next = pieces_next SampleCut (sample_of exporter source) count i octets h whole in
     let left = samples_of exporter source (count - (i + 1)) (rest_of octets) in
     sym kept ∙ ap (with_said rows notices i) next ∙ sym (ap (λ (first : Result Sample Cause). with_said rows notices i (before first left)) is)
+
+before_all : (samples : Result (List Sample) Cause) → with_said [] [] 0 samples ≡ said_in samples
+before_all (Ok samples) = refl
+before_all (Err cause) = refl
+
+pub nothing_before : (exporter : Addr) (source left count : ℕ) (octets : List ℕ) → left ≡ count
+    → with_said [] [] 0 (samples_of exporter source left octets) ≡ said_in (samples_of exporter source count octets)
+nothing_before exporter source left count octets same =
+    before_all (samples_of exporter source left octets) ∙ ap (λ (n : ℕ). said_in (samples_of exporter source n octets)) same
+
+-- no sample is left, and none was refused
+pub none_left : (rows : List RawRecord) (notices : List Notice) (passed left : ℕ) (exporter : Addr) (source : ℕ) (octets : List ℕ) (all : Result Said Cause) → left ≡ 0
+    → with_said rows notices passed (samples_of exporter source left octets) ≡ all → IsOk all
+none_left rows notices passed left exporter source octets all none is =
+    by all (sym is ∙ ap (λ (n : ℕ). with_said rows notices passed (samples_of exporter source n octets)) none)
+  where
+    by : (all : Result Said Cause) → all ≡ with_said rows notices passed (Ok []) → IsOk all
+    by (Ok said) h = refl
+    by (Err cause) h = cc h
 
 -- a sample gives at most one row
 pub few_in : (sample : Sample) → length (rows_in sample) ≤ 1

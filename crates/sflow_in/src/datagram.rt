@@ -1,9 +1,10 @@
 //! sFlow datagrams of version 5.
 
-ghost use Rattle.std.specs.Prelude.{◌≡◌, ◌≤◌, ◌+◌, ◌*◌, ◌++◌, ◌^◌, All, length, IfOk, OnOk};
+ghost use Rattle.std.specs.Prelude.{◌≡◌, ◌≤◌, ◌+◌, ◌*◌, ◌++◌, ◌^◌, All, Err, length, IfOk, IsOk, OnOk};
 ghost use Rattle.acct_types.specs.Counts.{IsBelow};
 ghost use Rattle.flow_templates.specs.Changes.{nothing_staged};
-ghost use Rattle.flow_templates.specs.Decoding.{Gives};
+ghost use Rattle.flow_templates.specs.declared.refusal.Undecodable.TheVariants as undecodable;
+ghost use Rattle.flow_templates.specs.Decoding.{FailsAs, Gives};
 ghost use Rattle.sflow_in.specs.Datagram.{decoded_sflow};
 ghost use Rattle.sflow_in.specs.Samples.{notices_in, rows_in, said_in, samples_of};
 
@@ -26,6 +27,24 @@ fn add(decoded: &mut RawDecoded, number: u32, sample: Sample) -> Result<(), NoMe
     }
 }
 
+// Why samples aren't kept: the first that is refused, or where none is, that memory is wanted.
+fn failure_of(exporter: Addr, source_id: u32, count: u32, octets: &[u8]) -> Undecodable
+    ensures { FailsAs result (said_in (samples_of exporter source_id count octets.now)) }
+{
+    let mut rest = octets;
+    for _ in 0..count {
+        if is_cut(rest) {
+            return Undecodable::Refused(Cause::SampleCut);
+        }
+        match read_sample(exporter, source_id, format_of(rest), body_of(rest)) {
+            Ok(_) => {}
+            Err(cause) => return Undecodable::Refused(cause),
+        }
+        rest = rest_of(rest);
+    }
+    Undecodable::NoMemory
+}
+
 fn read_samples(
     alloc: Global,
     exporter: Addr,
@@ -34,6 +53,7 @@ fn read_samples(
     octets: &[u8],
 ) -> Result<RawDecoded, Undecodable>
     ensures answer { Gives result nothing_staged (said_in (samples_of exporter source_id count octets.now)) }
+    ensures memory { result ≡ Err undecodable.NoMemory → IsOk (said_in (samples_of exporter source_id count octets.now)) }
     ensures few { IfOk result (λ decoded. 8 * length decoded.rows ≤ length octets.now) }
     ensures counts { IfOk result (λ decoded. All (λ row. IsBelow (2 ^ 64) row.flow.counts) decoded.rows) }
 {
@@ -50,7 +70,9 @@ fn read_samples(
             Ok(sample) => sample,
             Err(cause) => return Err(Undecodable::Refused(cause)),
         };
-        add(&mut decoded, index + 1, sample)?;
+        let Ok(()) = add(&mut decoded, index + 1, sample) else {
+            return Err(failure_of(exporter, source_id, count, octets));
+        };
         rest = rest_of(rest);
     }
     Ok(decoded)
@@ -68,6 +90,7 @@ pub fn decode_sflow(
     octets: &[u8],
 ) -> Result<RawDecoded, Undecodable>
     ensures answer { Gives result nothing_staged (decoded_sflow exporter.now octets.now) }
+    ensures memory { result ≡ Err undecodable.NoMemory → IsOk (decoded_sflow exporter.now octets.now) }
     ensures few { IfOk result (λ decoded. 8 * length decoded.rows ≤ length octets.now) }
     ensures counts { IfOk result (λ decoded. All (λ row. IsBelow (2 ^ 64) row.flow.counts) decoded.rows) }
 {

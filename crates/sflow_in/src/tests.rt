@@ -1,4 +1,7 @@
-use crate::{Cause, HeaderFault, HeaderFields, NoticeCause, RawDecoded, RawRecord, Undecodable, decode_sflow, read_sampled_header};
+use crate::{
+    Cause, HeaderFault, HeaderFields, NoticeCause, RawDecoded, RawRecord, Undecodable,
+    decode_sflow, read_sampled_header,
+};
 use acct_types::{Addr, Counts, FlowRecord, List, NoMemory};
 use std::alloc::Global;
 use std::test::Fail;

@@ -22,7 +22,7 @@ loop-rest-preserved c =
       leads = λ known.
           one_lesson c.args.domain.now known c.args.template.now c.args.octets.now nothing_said c.loop-rest.rest.now c.after-rest.result.now c.loop-rest.lessons c.append_lesson.new.lessons
           c.renew.new.self (kept.leads known) some (omega (arith, c.least_length-least.ensures, c.loop-rest-test.true)) c.in-Some.ensures.answer c.requires.options
-          c.in_ok-append_lesson.ensures c.after-rest.ensures;
+          c.in-Ok.ensures c.after-rest.ensures;
       fits = omega (arith, left, dropped, kept.fits);
       serves = c.in-Some.ensures.serves;
     }

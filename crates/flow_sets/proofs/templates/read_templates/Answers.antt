@@ -1,21 +1,12 @@
 use Rattle.std.proofs.Common.{arith}
-use Rattle.flow_templates.specs.Templates.{template_record}
 use Rattle.flow_sets.specs.Saying.{so_far}
-use Rattle.flow_sets.specs.Sets.{templates_said}
-use Rattle.flow_sets.proofs.TemplateLemmas.{ends, fails, is_refused, one_turn}
+use Rattle.flow_sets.proofs.TemplateLemmas.{ends, one_turn}
 use Rattle.flow_sets.proofs.templates.read_templates.Goals as goal
-
-pub returns-in-Err : goal.returns-in-Err
-returns-in-Err c decoded =
-    fails c.refused.result c.in-Err.fault (template_record c.args.domain.now.version c.args.options c.loop-rest.rest.now) (templates_said c.args.domain.now c.args.options c.args.octets.now)
-    c.refused.ensures c.in-Err.ensures.err
-    (is_refused c.args.domain.now c.args.options c.args.octets.now (so_far decoded c.args.staged.now) c.loop-rest.rest.now (so_far decoded c.loop-rest.staged) c.in-Err.fault
-    (c.loop-rest.invariant decoded) c.loop-rest-test.true)
 
 pub loop-rest-preserved : goal.loop-rest-preserved
 loop-rest-preserved c decoded =
     one_turn c.args.domain.now c.args.options c.args.octets.now (so_far decoded c.args.staged.now) c.loop-rest.rest.now c.after-rest.result.now decoded c.loop-rest.staged c.stage.new.staged
-    c.in-Ok.turn (c.loop-rest.invariant decoded) c.loop-rest-test.true c.in-Ok.ensures.ok c.in-Ok.ensures.least c.in_ok-stage.ensures c.after-rest.ensures
+    c.in-Ok.turn (c.loop-rest.invariant decoded) c.loop-rest-test.true c.in-Ok.ensures.answer c.in-Ok.ensures.least c.in-Ok-stage.ensures c.after-rest.ensures
 
 pub returns : goal.returns
 returns c decoded =
