@@ -590,7 +590,7 @@ fn faults_behind() -> &'static [FaultBehind] {
     &FAULTS_BEHIND
 }
 
-fn taken() -> &'static [Taken] {
+fn taken_ones() -> &'static [Taken] {
     &TAKEN_ONES
 }
 
@@ -667,7 +667,7 @@ fn has_names(config: &Config, wanted: &Taken) -> bool {
 
 #[test]
 fn configurations_are_read(rt: HostRuntime) -> Result<(), Fail> {
-    for (index, wanted) in taken().iter().enumerate() {
+    for (index, wanted) in taken_ones().iter().enumerate() {
         let whole = joined(rt.alloc(), wanted.base, wanted.text)?;
         let config = read(rt.alloc(), wanted.tool, whole.as_slice())?;
         assert!(rt; has_plugin(&config, wanted), "the plugin of {index}");
