@@ -1,8 +1,8 @@
 use crate::{
-    Addr, CellRef, Counts, Hop, Key, List, NoMemory, Octets, Prefix, RouteAttrs, Text,
+    Addr, CellRef, Counts, Hashing, Hop, Key, List, NoMemory, Octets, Prefix, RouteAttrs, Text,
     append_decimal, numbers, read_address,
 };
-use std::hash::{FoldHasher, Hash, Hasher};
+use std::hash::{BuildHasher, FoldHasher, Hash, Hasher};
 use std::test::Fail;
 
 #[test]
@@ -426,4 +426,18 @@ fn fold_of(key: &Key) -> u64 {
     let mut state = FoldHasher::default();
     key.hash(&mut state);
     state.finish()
+}
+
+#[test]
+fn hashes_depend_on_keys(rt: HostRuntime) -> Result<(), Fail> {
+    let some = Hashing::new(&rt).ok().ok_or("no keys")?;
+    let others = Hashing::new(&rt).ok().ok_or("no keys")?;
+    assert_eq!(rt; some.hash_one(7u64), some.hash_one(7u64));
+    assert!(rt; some.hash_one(7u64) != others.hash_one(7u64));
+    assert_eq!(rt;
+        Hashing::fixed().hash_one(7u64),
+        Hashing::fixed().hash_one(7u64)
+    );
+    assert!(rt; Hashing::fixed().hash_one(7u64) != some.hash_one(7u64));
+    Ok(())
 }

@@ -1,912 +1,498 @@
-use crate::{Config, ConfigCause, ConfigFault, PluginConfig, PluginKind, Tool, UsageFault, Words, has_output, read_config, read_words};
-use acct_types::{Addr, AsFrom, Column, Layout, Primitives, Text};
+use crate::{
+    Config, ConfigCause, ConfigFault, PluginConfig, PluginKind, Tool, UsageFault, Words,
+    has_output, read_config, read_words,
+};
+use acct_types::{Addr, AsFrom, Column, Layout, NoMemory, Octets, Primitives, Text};
 use std::alloc::{AllocError, Global};
 use std::test::Fail;
 
+/// What nfacctd is given where a row says no more.
+const BASE: &[u8] =
+    b"plugins: print[p]\nprint_output_file[p]: p.csv\nprint_output_file_append: true\nacct_flow_capture: flows.cap\n";
+
+/// A text of a tool, the line of its fault, and the cause.
+type Fault = (Tool, &'static [u8], u32, ConfigCause);
+
+/// The same of nfacctd, for a text behind the base.
+type FaultBehind = (&'static [u8], u32, ConfigCause);
+
+/// A configuration that is read: a base and what is behind it, and what it then has.
 #[derive(Clone, Copy)]
-struct Case {
+struct Taken {
     tool: Tool,
+    base: &'static [u8],
     text: &'static [u8],
-    wanted: Option<ConfigFault>,
+    kind: PluginKind,
+    plugin: &'static [u8],
+    file: &'static [u8],
+    flows: bool,
+    refresh: u32,
+    cache: u32,
+    ring: u32,
+    port: u64,
+    lag: u64,
+    hold: u64,
+    id: Addr,
+    pre_tag_map: &'static [u8],
+    agent_map: &'static [u8],
+    flow_capture: &'static [u8],
+    route_capture: &'static [u8],
+    audit: &'static [u8],
+    dump: &'static [u8],
+    from: (AsFrom, AsFrom),
 }
 
-static CASES: [Case; 124] = [
-    Case {
-        tool: Tool::Nfacctd,
-        text: b"plugins: print[p]\nprint_output_file[p]: p.csv\nprint_output_file_append: true\nacct_flow_capture: flows.cap\n",
-        wanted: None,
-    },
-    Case {
+const TAKEN: Taken = Taken {
+    tool: Tool::Nfacctd,
+    base: BASE,
+    text: b"",
+    kind: PluginKind::Print,
+    plugin: b"p",
+    file: b"p.csv",
+    flows: false,
+    refresh: 60,
+    cache: 16384,
+    ring: 4096,
+    port: 2100,
+    lag: 0,
+    hold: 180,
+    id: Addr::V4(0x7f00_0001),
+    pre_tag_map: b"",
+    agent_map: b"",
+    flow_capture: b"flows.cap",
+    route_capture: b"",
+    audit: b"audit.txt",
+    dump: b"dump.txt",
+    from: (AsFrom::Export, AsFrom::Export),
+};
+
+static FAULTS: [Fault; 29] = [
+    (
+        Tool::Sfacctd,
+        b"plugins: print[p]\nprint_output_file[p]: p.csv\nprint_output_file_append: true\nacct_flow_capture: flows.cap\nsfacctd_as: bgp\n",
+        0,
+        ConfigCause::MissingKey,
+    ),
+    (
+        Tool::Nfacctd,
+        b"plugins: print[p]\nprint_output_file[p]: p.csv\nprint_output_file_append: true\nacct_route_capture: r\n",
+        0,
+        ConfigCause::MissingKey,
+    ),
+    (Tool::Nfacctd, b"", 0, ConfigCause::MissingKey),
+    (
+        Tool::Sfacctd,
+        b"plugins: print\nprint_output_file: f\n",
+        0,
+        ConfigCause::MissingKey,
+    ),
+    (
+        Tool::Nfacctd,
+        b"plugins: print[p], print[q]\nprint_output_file_append[p]: true\nprint_output_file[p]: p\nprint_output_file[q]: q\n",
+        0,
+        ConfigCause::MissingKey,
+    ),
+    (
+        Tool::Nfacctd,
+        b"plugins: memory[m]\n",
+        0,
+        ConfigCause::MissingKey,
+    ),
+    (
+        Tool::Nfacctd,
+        b"print_output_file[q]: f\nplugins: print[p]\n",
+        1,
+        ConfigCause::UnknownPlugin,
+    ),
+    (
+        Tool::Nfacctd,
+        b"print_output_file[q]: f\nplugins: print[p], kafka\n",
+        2,
+        ConfigCause::NotInProfile,
+    ),
+    (
+        Tool::Nfacctd,
+        b"print_output_file[q]: f\nplugins[x]: print[p]\nplugins: print[p]\n",
+        2,
+        ConfigCause::NotInProfile,
+    ),
+    (
+        Tool::Nfacctd,
+        b"print_output_file[q]: f\nplugins: print[p]\x80\nplugins: print[p]\n",
+        2,
+        ConfigCause::NotText,
+    ),
+    (
+        Tool::Nfacctd,
+        b"print_output_file[q]: f\nplugins[]: print[p]\nplugins: print[p]\n",
+        1,
+        ConfigCause::UnknownPlugin,
+    ),
+    (
+        Tool::Nfacctd,
+        b"plugins: foo, kafka\n",
+        1,
+        ConfigCause::NotInProfile,
+    ),
+    (
+        Tool::Nfacctd,
+        b"plugins: kafka[k]\n",
+        1,
+        ConfigCause::NotInProfile,
+    ),
+    (
+        Tool::Nfacctd,
+        b"plugins: kafka[a b]\n",
+        1,
+        ConfigCause::BadValue,
+    ),
+    (
+        Tool::Nfacctd,
+        b"plugins: print[p],\n",
+        1,
+        ConfigCause::BadValue,
+    ),
+    (Tool::Nfacctd, b"plugins:\n", 1, ConfigCause::BadValue),
+    (
+        Tool::Nfacctd,
+        b"plugins: print[p], memory[p]\n",
+        1,
+        ConfigCause::BadValue,
+    ),
+    (
+        Tool::Nfacctd,
+        b"plugins: print, print[print]\n",
+        1,
+        ConfigCause::BadValue,
+    ),
+    (
+        Tool::Nfacctd,
+        b"plugins: print[a], print[b], print[c], print[d], print[e], print[f], print[g], print[h], print[i]\n",
+        1,
+        ConfigCause::TooManyPlugins,
+    ),
+    (
+        Tool::Nfacctd,
+        b"plugins: print[a], print[b], print[c], print[d], print[e], print[f], print[g], print[h], print[a]\n",
+        1,
+        ConfigCause::BadValue,
+    ),
+    (
+        Tool::Nfacctd,
+        b"plugins: print[a], print[b], print[c], print[d], print[e], print[f], print[g], print[h]\n",
+        0,
+        ConfigCause::MissingKey,
+    ),
+    (
+        Tool::Nfacctd,
+        b"plugins: print[a], print[b], print[c], print[d], print[e], print[f], print[g], print[h], kafka\n",
+        1,
+        ConfigCause::NotInProfile,
+    ),
+    (
+        Tool::Pmbgpd,
+        b"nfacctd_port: bad\n",
+        1,
+        ConfigCause::BadValue,
+    ),
+    (
+        Tool::Pmbgpd,
+        b"nfacctd_port: bad\nwhat\n",
+        1,
+        ConfigCause::BadValue,
+    ),
+    (
+        Tool::Pmbgpd,
+        b"debug: 1\nnfacctd_port: bad\n\x80\n",
+        2,
+        ConfigCause::BadValue,
+    ),
+    (
+        Tool::Nfacctd,
+        b"plugins: print[p], print[q]\nprint_output_file_append: true\nprint_output_file: f\n",
+        0,
+        ConfigCause::SameName,
+    ),
+    (
+        Tool::Nfacctd,
+        b"plugins: memory[m]\nacct_memory_file: audit.txt\n",
+        0,
+        ConfigCause::SameName,
+    ),
+    (
+        Tool::Pmbgpd,
+        b"acct_route_capture: dump.txt\n",
+        0,
+        ConfigCause::SameName,
+    ),
+    (
+        Tool::Pmbgpd,
+        b"acct_route_capture: r\nacct_dump_file: r\n",
+        0,
+        ConfigCause::SameName,
+    ),
+];
+
+static FAULTS_BEHIND: [FaultBehind; 63] = [
+    (b"debug", 5, ConfigCause::NoColon),
+    (b"debug: true\r", 5, ConfigCause::NotText),
+    (b"debug: true\r\r\n", 5, ConfigCause::NotText),
+    (b"debug: \x7f\n", 5, ConfigCause::NotText),
+    (b"debug: \x1f\n", 5, ConfigCause::NotText),
+    (b"\x80\n", 5, ConfigCause::NotText),
+    (b"no colon\n", 5, ConfigCause::NoColon),
+    (b": value\n", 5, ConfigCause::UnknownKey),
+    (b"what: 1\n", 5, ConfigCause::UnknownKey),
+    (b"debug[]: 1\n", 5, ConfigCause::UnknownKey),
+    (b"debug[a b]: 1\n", 5, ConfigCause::UnknownKey),
+    (b"debug[a: 1\n", 5, ConfigCause::UnknownKey),
+    (b"debug [a]: 1\n", 5, ConfigCause::UnknownKey),
+    (b"debug[a]]: 1\n", 5, ConfigCause::UnknownKey),
+    (b"Debug: 1\n", 5, ConfigCause::UnknownKey),
+    (
+        b"debug[aaaaaaaaaaaaaaaaaaaaaaaaaaaaaaaaa]: 1\n",
+        5,
+        ConfigCause::UnknownKey,
+    ),
+    (b"debug: 1\ndebug: 2\n", 6, ConfigCause::Repeated),
+    (b"debug[x]: 1\ndebug[x]: 2\n", 6, ConfigCause::Repeated),
+    (b"nfacctd_port[p]: 1\n", 5, ConfigCause::NotInProfile),
+    (
+        b"nfacctd_port[p]: bad\nnfacctd_port[p]: 1\n",
+        5,
+        ConfigCause::NotInProfile,
+    ),
+    (b"print_output: avro\n", 5, ConfigCause::NotInProfile),
+    (
+        b"print_output: csv\nprint_output: avro\n",
+        6,
+        ConfigCause::NotInProfile,
+    ),
+    (
+        b"print_output: csv\nprint_output: bad\n",
+        6,
+        ConfigCause::Repeated,
+    ),
+    (b"print_output[q]: avro\n", 5, ConfigCause::NotInProfile),
+    (b"print_output[q]: bad\n", 5, ConfigCause::UnknownPlugin),
+    (b"print_output[p]: bad\n", 5, ConfigCause::BadValue),
+    (
+        b"print_output_file_append[p]: false\n",
+        5,
+        ConfigCause::NotInProfile,
+    ),
+    (b"nfacctd_as: longest\n", 5, ConfigCause::NotInProfile),
+    (b"sfacctd_as: file\n", 5, ConfigCause::NotInProfile),
+    (b"sfacctd_as: netflow\n", 5, ConfigCause::BadValue),
+    (b"nfacctd_as: bgp\n", 0, ConfigCause::MissingKey),
+    (
+        b"nfacctd_as: bmp\nbgp_daemon: true\nacct_route_capture: r\n",
+        0,
+        ConfigCause::MissingKey,
+    ),
+    (
+        b"nfacctd_as: bgp\nbgp_daemon: true\n",
+        0,
+        ConfigCause::MissingKey,
+    ),
+    (b"plugins: print[p]\n", 5, ConfigCause::Repeated),
+    (b"aggregate:\n", 5, ConfigCause::UnknownPrimitive),
+    (b"aggregate: src_host,\n", 5, ConfigCause::UnknownPrimitive),
+    (
+        b"aggregate: src_host, what\n",
+        5,
+        ConfigCause::UnknownPrimitive,
+    ),
+    (b"print_refresh_time: 0\n", 5, ConfigCause::BadValue),
+    (b"print_refresh_time: 86401\n", 5, ConfigCause::BadValue),
+    (b"acct_ring_records: 65537\n", 5, ConfigCause::BadValue),
+    (b"nfacctd_port: 0\n", 5, ConfigCause::BadValue),
+    (b"nfacctd_port: 65536\n", 5, ConfigCause::BadValue),
+    (b"acct_replay_lag: 00\n", 5, ConfigCause::BadValue),
+    (b"acct_replay_lag: +1\n", 5, ConfigCause::BadValue),
+    (b"acct_replay_lag: 4294967296\n", 5, ConfigCause::BadValue),
+    (
+        b"acct_replay_lag: 99999999999999999999999\n",
+        5,
+        ConfigCause::BadValue,
+    ),
+    (b"acct_bgp_hold: 2\n", 5, ConfigCause::BadValue),
+    (b"acct_stop_after: 0\n", 5, ConfigCause::BadValue),
+    (b"bgp_daemon: yes\n", 5, ConfigCause::BadValue),
+    (b"acct_bgp_id: 0.0.0.0\n", 5, ConfigCause::BadValue),
+    (b"acct_bgp_id: 192.0.2.01\n", 5, ConfigCause::BadValue),
+    (b"acct_bgp_id: ::\n", 5, ConfigCause::BadValue),
+    (b"acct_bgp_id: 1::1\n", 5, ConfigCause::BadValue),
+    (b"acct_bgp_id: ::ffff\n", 5, ConfigCause::BadValue),
+    (b"acct_bgp_id: 1:2:3:4:5:6:7:8\n", 5, ConfigCause::BadValue),
+    (
+        b"acct_bgp_id: 1:2:3:4:5:6:7:8:9\n",
+        5,
+        ConfigCause::BadValue,
+    ),
+    (
+        b"pre_tag_map: ffffffffffffffffffffffffffffffffffffffffffffffffffffffffffffffffffffffffffffffffffffffffffffffffffffffffffffffffffffffffffffffffffffffffffffffffffffffffffffffffffffffffffffffffffffffffffffffffffffffffffffffffffffffffffffffffffffffffffffffffffffffffffffffff\n",
+        5,
+        ConfigCause::BadValue,
+    ),
+    (b"pre_tag_map:\n", 5, ConfigCause::BadValue),
+    (b"acct_audit_file: flows.cap\n", 0, ConfigCause::SameName),
+    (b"acct_audit_file: p.csv\n", 0, ConfigCause::SameName),
+    (b"pre_tag_map: p.csv\n", 0, ConfigCause::SameName),
+    (b"sampling_map: audit.txt\n", 0, ConfigCause::SameName),
+    (b"acct_route_capture: flows.cap\n", 0, ConfigCause::SameName),
+];
+
+static TAKEN_ONES: [Taken; 28] = [
+    TAKEN,
+    Taken {
         tool: Tool::Sfacctd,
-        text: b"plugins: print[p]\nprint_output_file[p]: p.csv\nprint_output_file_append: true\nacct_flow_capture: flows.cap\n",
-        wanted: None,
+        ..TAKEN
     },
-    Case {
-        tool: Tool::Pmbgpd,
-        text: b"",
-        wanted: None,
+    Taken {
+        text: b"! a comment \x80\n# another\n \t \n",
+        ..TAKEN
     },
-    Case {
-        tool: Tool::Pmbgpd,
-        text: b"plugins: print[p]\n",
-        wanted: None,
-    },
-    Case {
-        tool: Tool::Nfacctd,
-        text: b"plugins: print[p]\nprint_output_file[p]: p.csv\nprint_output_file_append: true\nacct_flow_capture: flows.cap\n! a comment \x80\n# another\n \t \n",
-        wanted: None,
-    },
-    Case {
-        tool: Tool::Nfacctd,
+    Taken {
+        base: b"",
         text: b"plugins: print[p]\r\nprint_output_file[p]: p.csv\r\nprint_output_file_append: true\r\nacct_flow_capture: flows.cap\r\n",
-        wanted: None,
+        ..TAKEN
     },
-    Case {
-        tool: Tool::Nfacctd,
-        text: b"plugins: print[p]\nprint_output_file[p]: p.csv\nprint_output_file_append: true\nacct_flow_capture: flows.cap\ndebug",
-        wanted: Some(ConfigFault::At {
-            line: 5,
-            cause: ConfigCause::NoColon,
-        }),
+    Taken {
+        text: b"debug: true",
+        ..TAKEN
     },
-    Case {
-        tool: Tool::Nfacctd,
-        text: b"plugins: print[p]\nprint_output_file[p]: p.csv\nprint_output_file_append: true\nacct_flow_capture: flows.cap\ndebug: true",
-        wanted: None,
+    Taken {
+        text: b"\tdebug\t:\t1\n",
+        ..TAKEN
     },
-    Case {
-        tool: Tool::Nfacctd,
-        text: b"plugins: print[p]\nprint_output_file[p]: p.csv\nprint_output_file_append: true\nacct_flow_capture: flows.cap\ndebug: true\r",
-        wanted: Some(ConfigFault::At {
-            line: 5,
-            cause: ConfigCause::NotText,
-        }),
+    Taken {
+        text: b"debug: a~\n",
+        ..TAKEN
     },
-    Case {
-        tool: Tool::Nfacctd,
-        text: b"plugins: print[p]\nprint_output_file[p]: p.csv\nprint_output_file_append: true\nacct_flow_capture: flows.cap\ndebug: true\r\r\n",
-        wanted: Some(ConfigFault::At {
-            line: 5,
-            cause: ConfigCause::NotText,
-        }),
+    Taken {
+        text: b"debug[aaaaaaaaaaaaaaaaaaaaaaaaaaaaaaaa]: 1\n",
+        ..TAKEN
     },
-    Case {
-        tool: Tool::Nfacctd,
-        text: b"plugins: print[p]\nprint_output_file[p]: p.csv\nprint_output_file_append: true\nacct_flow_capture: flows.cap\n\tdebug\t:\t1\n",
-        wanted: None,
+    Taken {
+        text: b"debug[x]: 1\ndebug[y]: 1\ndebug: \n",
+        ..TAKEN
     },
-    Case {
-        tool: Tool::Nfacctd,
-        text: b"plugins: print[p]\nprint_output_file[p]: p.csv\nprint_output_file_append: true\nacct_flow_capture: flows.cap\ndebug: \x7f\n",
-        wanted: Some(ConfigFault::At {
-            line: 5,
-            cause: ConfigCause::NotText,
-        }),
+    Taken {
+        text: b"sfacctd_as: bgp\n",
+        from: (AsFrom::Export, AsFrom::Bgp),
+        ..TAKEN
     },
-    Case {
-        tool: Tool::Nfacctd,
-        text: b"plugins: print[p]\nprint_output_file[p]: p.csv\nprint_output_file_append: true\nacct_flow_capture: flows.cap\ndebug: \x1f\n",
-        wanted: Some(ConfigFault::At {
-            line: 5,
-            cause: ConfigCause::NotText,
-        }),
+    Taken {
+        text: b"nfacctd_as: bgp\nbgp_daemon: true\nacct_route_capture: r\n",
+        from: (AsFrom::Bgp, AsFrom::Export),
+        route_capture: b"r",
+        ..TAKEN
     },
-    Case {
-        tool: Tool::Nfacctd,
-        text: b"plugins: print[p]\nprint_output_file[p]: p.csv\nprint_output_file_append: true\nacct_flow_capture: flows.cap\ndebug: a~\n",
-        wanted: None,
+    Taken {
+        text: b"acct_route_capture: r\n",
+        route_capture: b"r",
+        ..TAKEN
     },
-    Case {
-        tool: Tool::Nfacctd,
-        text: b"plugins: print[p]\nprint_output_file[p]: p.csv\nprint_output_file_append: true\nacct_flow_capture: flows.cap\n\x80\n",
-        wanted: Some(ConfigFault::At {
-            line: 5,
-            cause: ConfigCause::NotText,
-        }),
-    },
-    Case {
-        tool: Tool::Nfacctd,
-        text: b"plugins: print[p]\nprint_output_file[p]: p.csv\nprint_output_file_append: true\nacct_flow_capture: flows.cap\nno colon\n",
-        wanted: Some(ConfigFault::At {
-            line: 5,
-            cause: ConfigCause::NoColon,
-        }),
-    },
-    Case {
-        tool: Tool::Nfacctd,
-        text: b"plugins: print[p]\nprint_output_file[p]: p.csv\nprint_output_file_append: true\nacct_flow_capture: flows.cap\n: value\n",
-        wanted: Some(ConfigFault::At {
-            line: 5,
-            cause: ConfigCause::UnknownKey,
-        }),
-    },
-    Case {
-        tool: Tool::Nfacctd,
-        text: b"plugins: print[p]\nprint_output_file[p]: p.csv\nprint_output_file_append: true\nacct_flow_capture: flows.cap\nwhat: 1\n",
-        wanted: Some(ConfigFault::At {
-            line: 5,
-            cause: ConfigCause::UnknownKey,
-        }),
-    },
-    Case {
-        tool: Tool::Nfacctd,
-        text: b"plugins: print[p]\nprint_output_file[p]: p.csv\nprint_output_file_append: true\nacct_flow_capture: flows.cap\ndebug[]: 1\n",
-        wanted: Some(ConfigFault::At {
-            line: 5,
-            cause: ConfigCause::UnknownKey,
-        }),
-    },
-    Case {
-        tool: Tool::Nfacctd,
-        text: b"plugins: print[p]\nprint_output_file[p]: p.csv\nprint_output_file_append: true\nacct_flow_capture: flows.cap\ndebug[a b]: 1\n",
-        wanted: Some(ConfigFault::At {
-            line: 5,
-            cause: ConfigCause::UnknownKey,
-        }),
-    },
-    Case {
-        tool: Tool::Nfacctd,
-        text: b"plugins: print[p]\nprint_output_file[p]: p.csv\nprint_output_file_append: true\nacct_flow_capture: flows.cap\ndebug[a: 1\n",
-        wanted: Some(ConfigFault::At {
-            line: 5,
-            cause: ConfigCause::UnknownKey,
-        }),
-    },
-    Case {
-        tool: Tool::Nfacctd,
-        text: b"plugins: print[p]\nprint_output_file[p]: p.csv\nprint_output_file_append: true\nacct_flow_capture: flows.cap\ndebug [a]: 1\n",
-        wanted: Some(ConfigFault::At {
-            line: 5,
-            cause: ConfigCause::UnknownKey,
-        }),
-    },
-    Case {
-        tool: Tool::Nfacctd,
-        text: b"plugins: print[p]\nprint_output_file[p]: p.csv\nprint_output_file_append: true\nacct_flow_capture: flows.cap\ndebug[a]]: 1\n",
-        wanted: Some(ConfigFault::At {
-            line: 5,
-            cause: ConfigCause::UnknownKey,
-        }),
-    },
-    Case {
-        tool: Tool::Nfacctd,
-        text: b"plugins: print[p]\nprint_output_file[p]: p.csv\nprint_output_file_append: true\nacct_flow_capture: flows.cap\nDebug: 1\n",
-        wanted: Some(ConfigFault::At {
-            line: 5,
-            cause: ConfigCause::UnknownKey,
-        }),
-    },
-    Case {
-        tool: Tool::Nfacctd,
-        text: b"plugins: print[p]\nprint_output_file[p]: p.csv\nprint_output_file_append: true\nacct_flow_capture: flows.cap\ndebug[aaaaaaaaaaaaaaaaaaaaaaaaaaaaaaaa]: 1\n",
-        wanted: None,
-    },
-    Case {
-        tool: Tool::Nfacctd,
-        text: b"plugins: print[p]\nprint_output_file[p]: p.csv\nprint_output_file_append: true\nacct_flow_capture: flows.cap\ndebug[aaaaaaaaaaaaaaaaaaaaaaaaaaaaaaaaa]: 1\n",
-        wanted: Some(ConfigFault::At {
-            line: 5,
-            cause: ConfigCause::UnknownKey,
-        }),
-    },
-    Case {
-        tool: Tool::Nfacctd,
-        text: b"plugins: print[p]\nprint_output_file[p]: p.csv\nprint_output_file_append: true\nacct_flow_capture: flows.cap\ndebug[x]: 1\ndebug[y]: 1\ndebug: \n",
-        wanted: None,
-    },
-    Case {
-        tool: Tool::Nfacctd,
-        text: b"plugins: print[p]\nprint_output_file[p]: p.csv\nprint_output_file_append: true\nacct_flow_capture: flows.cap\ndebug: 1\ndebug: 2\n",
-        wanted: Some(ConfigFault::At {
-            line: 6,
-            cause: ConfigCause::Repeated,
-        }),
-    },
-    Case {
-        tool: Tool::Nfacctd,
-        text: b"plugins: print[p]\nprint_output_file[p]: p.csv\nprint_output_file_append: true\nacct_flow_capture: flows.cap\ndebug[x]: 1\ndebug[x]: 2\n",
-        wanted: Some(ConfigFault::At {
-            line: 6,
-            cause: ConfigCause::Repeated,
-        }),
-    },
-    Case {
-        tool: Tool::Nfacctd,
-        text: b"plugins: print[p]\nprint_output_file[p]: p.csv\nprint_output_file_append: true\nacct_flow_capture: flows.cap\nnfacctd_port[p]: 1\n",
-        wanted: Some(ConfigFault::At {
-            line: 5,
-            cause: ConfigCause::NotInProfile,
-        }),
-    },
-    Case {
-        tool: Tool::Nfacctd,
-        text: b"plugins: print[p]\nprint_output_file[p]: p.csv\nprint_output_file_append: true\nacct_flow_capture: flows.cap\nnfacctd_port[p]: bad\nnfacctd_port[p]: 1\n",
-        wanted: Some(ConfigFault::At {
-            line: 5,
-            cause: ConfigCause::NotInProfile,
-        }),
-    },
-    Case {
-        tool: Tool::Nfacctd,
-        text: b"plugins: print[p]\nprint_output_file[p]: p.csv\nprint_output_file_append: true\nacct_flow_capture: flows.cap\nprint_output: avro\n",
-        wanted: Some(ConfigFault::At {
-            line: 5,
-            cause: ConfigCause::NotInProfile,
-        }),
-    },
-    Case {
-        tool: Tool::Nfacctd,
-        text: b"plugins: print[p]\nprint_output_file[p]: p.csv\nprint_output_file_append: true\nacct_flow_capture: flows.cap\nprint_output: csv\nprint_output: avro\n",
-        wanted: Some(ConfigFault::At {
-            line: 6,
-            cause: ConfigCause::NotInProfile,
-        }),
-    },
-    Case {
-        tool: Tool::Nfacctd,
-        text: b"plugins: print[p]\nprint_output_file[p]: p.csv\nprint_output_file_append: true\nacct_flow_capture: flows.cap\nprint_output: csv\nprint_output: bad\n",
-        wanted: Some(ConfigFault::At {
-            line: 6,
-            cause: ConfigCause::Repeated,
-        }),
-    },
-    Case {
-        tool: Tool::Nfacctd,
-        text: b"plugins: print[p]\nprint_output_file[p]: p.csv\nprint_output_file_append: true\nacct_flow_capture: flows.cap\nprint_output[q]: avro\n",
-        wanted: Some(ConfigFault::At {
-            line: 5,
-            cause: ConfigCause::NotInProfile,
-        }),
-    },
-    Case {
-        tool: Tool::Nfacctd,
-        text: b"plugins: print[p]\nprint_output_file[p]: p.csv\nprint_output_file_append: true\nacct_flow_capture: flows.cap\nprint_output[q]: bad\n",
-        wanted: Some(ConfigFault::At {
-            line: 5,
-            cause: ConfigCause::UnknownPlugin,
-        }),
-    },
-    Case {
-        tool: Tool::Nfacctd,
-        text: b"plugins: print[p]\nprint_output_file[p]: p.csv\nprint_output_file_append: true\nacct_flow_capture: flows.cap\nprint_output[p]: bad\n",
-        wanted: Some(ConfigFault::At {
-            line: 5,
-            cause: ConfigCause::BadValue,
-        }),
-    },
-    Case {
-        tool: Tool::Nfacctd,
-        text: b"plugins: print[p]\nprint_output_file[p]: p.csv\nprint_output_file_append: true\nacct_flow_capture: flows.cap\nprint_output_file_append[p]: false\n",
-        wanted: Some(ConfigFault::At {
-            line: 5,
-            cause: ConfigCause::NotInProfile,
-        }),
-    },
-    Case {
-        tool: Tool::Nfacctd,
-        text: b"plugins: print[p]\nprint_output_file[p]: p.csv\nprint_output_file_append: true\nacct_flow_capture: flows.cap\nnfacctd_as: longest\n",
-        wanted: Some(ConfigFault::At {
-            line: 5,
-            cause: ConfigCause::NotInProfile,
-        }),
-    },
-    Case {
-        tool: Tool::Nfacctd,
-        text: b"plugins: print[p]\nprint_output_file[p]: p.csv\nprint_output_file_append: true\nacct_flow_capture: flows.cap\nsfacctd_as: file\n",
-        wanted: Some(ConfigFault::At {
-            line: 5,
-            cause: ConfigCause::NotInProfile,
-        }),
-    },
-    Case {
-        tool: Tool::Nfacctd,
-        text: b"plugins: print[p]\nprint_output_file[p]: p.csv\nprint_output_file_append: true\nacct_flow_capture: flows.cap\nsfacctd_as: netflow\n",
-        wanted: Some(ConfigFault::At {
-            line: 5,
-            cause: ConfigCause::BadValue,
-        }),
-    },
-    Case {
-        tool: Tool::Nfacctd,
-        text: b"plugins: print[p]\nprint_output_file[p]: p.csv\nprint_output_file_append: true\nacct_flow_capture: flows.cap\nsfacctd_as: bgp\n",
-        wanted: None,
-    },
-    Case {
-        tool: Tool::Sfacctd,
-        text: b"plugins: print[p]\nprint_output_file[p]: p.csv\nprint_output_file_append: true\nacct_flow_capture: flows.cap\nsfacctd_as: bgp\n",
-        wanted: Some(ConfigFault::At {
-            line: 0,
-            cause: ConfigCause::MissingKey,
-        }),
-    },
-    Case {
-        tool: Tool::Nfacctd,
-        text: b"plugins: print[p]\nprint_output_file[p]: p.csv\nprint_output_file_append: true\nacct_flow_capture: flows.cap\nnfacctd_as: bgp\n",
-        wanted: Some(ConfigFault::At {
-            line: 0,
-            cause: ConfigCause::MissingKey,
-        }),
-    },
-    Case {
-        tool: Tool::Nfacctd,
-        text: b"plugins: print[p]\nprint_output_file[p]: p.csv\nprint_output_file_append: true\nacct_flow_capture: flows.cap\nnfacctd_as: bmp\nbgp_daemon: true\nacct_route_capture: r\n",
-        wanted: Some(ConfigFault::At {
-            line: 0,
-            cause: ConfigCause::MissingKey,
-        }),
-    },
-    Case {
-        tool: Tool::Nfacctd,
-        text: b"plugins: print[p]\nprint_output_file[p]: p.csv\nprint_output_file_append: true\nacct_flow_capture: flows.cap\nnfacctd_as: bgp\nbgp_daemon: true\n",
-        wanted: Some(ConfigFault::At {
-            line: 0,
-            cause: ConfigCause::MissingKey,
-        }),
-    },
-    Case {
-        tool: Tool::Nfacctd,
-        text: b"plugins: print[p]\nprint_output_file[p]: p.csv\nprint_output_file_append: true\nacct_flow_capture: flows.cap\nnfacctd_as: bgp\nbgp_daemon: true\nacct_route_capture: r\n",
-        wanted: None,
-    },
-    Case {
-        tool: Tool::Nfacctd,
-        text: b"plugins: print[p]\nprint_output_file[p]: p.csv\nprint_output_file_append: true\nacct_flow_capture: flows.cap\nacct_route_capture: r\n",
-        wanted: None,
-    },
-    Case {
-        tool: Tool::Nfacctd,
+    Taken {
+        base: b"",
         text: b"plugins: print[p]\nprint_output_file[p]: p.csv\nprint_output_file_append: true\n",
-        wanted: None,
+        flow_capture: b"",
+        ..TAKEN
     },
-    Case {
-        tool: Tool::Nfacctd,
-        text: b"plugins: print[p]\nprint_output_file[p]: p.csv\nprint_output_file_append: true\nacct_route_capture: r\n",
-        wanted: Some(ConfigFault::At {
-            line: 0,
-            cause: ConfigCause::MissingKey,
-        }),
-    },
-    Case {
-        tool: Tool::Nfacctd,
-        text: b"",
-        wanted: Some(ConfigFault::At {
-            line: 0,
-            cause: ConfigCause::MissingKey,
-        }),
-    },
-    Case {
-        tool: Tool::Sfacctd,
-        text: b"plugins: print\nprint_output_file: f\n",
-        wanted: Some(ConfigFault::At {
-            line: 0,
-            cause: ConfigCause::MissingKey,
-        }),
-    },
-    Case {
-        tool: Tool::Nfacctd,
-        text: b"plugins: print[p], print[q]\nprint_output_file_append[p]: true\nprint_output_file[p]: p\nprint_output_file[q]: q\n",
-        wanted: Some(ConfigFault::At {
-            line: 0,
-            cause: ConfigCause::MissingKey,
-        }),
-    },
-    Case {
-        tool: Tool::Nfacctd,
-        text: b"plugins: memory[m]\n",
-        wanted: Some(ConfigFault::At {
-            line: 0,
-            cause: ConfigCause::MissingKey,
-        }),
-    },
-    Case {
-        tool: Tool::Nfacctd,
+    Taken {
+        base: b"",
         text: b"plugins: memory[m]\nacct_memory_file[m]: m.txt\n",
-        wanted: None,
-    },
-    Case {
-        tool: Tool::Nfacctd,
-        text: b"print_output_file[q]: f\nplugins: print[p]\n",
-        wanted: Some(ConfigFault::At {
-            line: 1,
-            cause: ConfigCause::UnknownPlugin,
-        }),
-    },
-    Case {
-        tool: Tool::Nfacctd,
-        text: b"print_output_file[q]: f\nplugins: print[p], kafka\n",
-        wanted: Some(ConfigFault::At {
-            line: 2,
-            cause: ConfigCause::NotInProfile,
-        }),
-    },
-    Case {
-        tool: Tool::Nfacctd,
-        text: b"print_output_file[q]: f\nplugins[x]: print[p]\nplugins: print[p]\n",
-        wanted: Some(ConfigFault::At {
-            line: 2,
-            cause: ConfigCause::NotInProfile,
-        }),
-    },
-    Case {
-        tool: Tool::Nfacctd,
-        text: b"print_output_file[q]: f\nplugins: print[p]\x80\nplugins: print[p]\n",
-        wanted: Some(ConfigFault::At {
-            line: 2,
-            cause: ConfigCause::NotText,
-        }),
-    },
-    Case {
-        tool: Tool::Nfacctd,
-        text: b"print_output_file[q]: f\nplugins[]: print[p]\nplugins: print[p]\n",
-        wanted: Some(ConfigFault::At {
-            line: 1,
-            cause: ConfigCause::UnknownPlugin,
-        }),
-    },
-    Case {
-        tool: Tool::Nfacctd,
-        text: b"plugins: foo, kafka\n",
-        wanted: Some(ConfigFault::At {
-            line: 1,
-            cause: ConfigCause::NotInProfile,
-        }),
-    },
-    Case {
-        tool: Tool::Nfacctd,
-        text: b"plugins: kafka[k]\n",
-        wanted: Some(ConfigFault::At {
-            line: 1,
-            cause: ConfigCause::NotInProfile,
-        }),
-    },
-    Case {
-        tool: Tool::Nfacctd,
-        text: b"plugins: kafka[a b]\n",
-        wanted: Some(ConfigFault::At {
-            line: 1,
-            cause: ConfigCause::BadValue,
-        }),
-    },
-    Case {
-        tool: Tool::Nfacctd,
-        text: b"plugins: print[p],\n",
-        wanted: Some(ConfigFault::At {
-            line: 1,
-            cause: ConfigCause::BadValue,
-        }),
-    },
-    Case {
-        tool: Tool::Nfacctd,
-        text: b"plugins:\n",
-        wanted: Some(ConfigFault::At {
-            line: 1,
-            cause: ConfigCause::BadValue,
-        }),
-    },
-    Case {
-        tool: Tool::Nfacctd,
-        text: b"plugins: print[p], memory[p]\n",
-        wanted: Some(ConfigFault::At {
-            line: 1,
-            cause: ConfigCause::BadValue,
-        }),
-    },
-    Case {
-        tool: Tool::Nfacctd,
-        text: b"plugins: print, print[print]\n",
-        wanted: Some(ConfigFault::At {
-            line: 1,
-            cause: ConfigCause::BadValue,
-        }),
-    },
-    Case {
-        tool: Tool::Nfacctd,
-        text: b"plugins: print[a], print[b], print[c], print[d], print[e], print[f], print[g], print[h], print[i]\n",
-        wanted: Some(ConfigFault::At {
-            line: 1,
-            cause: ConfigCause::TooManyPlugins,
-        }),
-    },
-    Case {
-        tool: Tool::Nfacctd,
-        text: b"plugins: print[a], print[b], print[c], print[d], print[e], print[f], print[g], print[h], print[a]\n",
-        wanted: Some(ConfigFault::At {
-            line: 1,
-            cause: ConfigCause::BadValue,
-        }),
-    },
-    Case {
-        tool: Tool::Nfacctd,
-        text: b"plugins: print[a], print[b], print[c], print[d], print[e], print[f], print[g], print[h]\n",
-        wanted: Some(ConfigFault::At {
-            line: 0,
-            cause: ConfigCause::MissingKey,
-        }),
-    },
-    Case {
-        tool: Tool::Nfacctd,
-        text: b"plugins: print[a], print[b], print[c], print[d], print[e], print[f], print[g], print[h], kafka\n",
-        wanted: Some(ConfigFault::At {
-            line: 1,
-            cause: ConfigCause::NotInProfile,
-        }),
-    },
-    Case {
-        tool: Tool::Nfacctd,
-        text: b"plugins: print[p]\nprint_output_file[p]: p.csv\nprint_output_file_append: true\nacct_flow_capture: flows.cap\nplugins: print[p]\n",
-        wanted: Some(ConfigFault::At {
-            line: 5,
-            cause: ConfigCause::Repeated,
-        }),
-    },
-    Case {
-        tool: Tool::Nfacctd,
-        text: b"plugins: print[p]\nprint_output_file[p]: p.csv\nprint_output_file_append: true\nacct_flow_capture: flows.cap\naggregate:\n",
-        wanted: Some(ConfigFault::At {
-            line: 5,
-            cause: ConfigCause::UnknownPrimitive,
-        }),
-    },
-    Case {
-        tool: Tool::Nfacctd,
-        text: b"plugins: print[p]\nprint_output_file[p]: p.csv\nprint_output_file_append: true\nacct_flow_capture: flows.cap\naggregate: src_host,\n",
-        wanted: Some(ConfigFault::At {
-            line: 5,
-            cause: ConfigCause::UnknownPrimitive,
-        }),
-    },
-    Case {
-        tool: Tool::Nfacctd,
-        text: b"plugins: print[p]\nprint_output_file[p]: p.csv\nprint_output_file_append: true\nacct_flow_capture: flows.cap\naggregate: src_host, what\n",
-        wanted: Some(ConfigFault::At {
-            line: 5,
-            cause: ConfigCause::UnknownPrimitive,
-        }),
-    },
-    Case {
-        tool: Tool::Nfacctd,
-        text: b"plugins: print[p]\nprint_output_file[p]: p.csv\nprint_output_file_append: true\nacct_flow_capture: flows.cap\naggregate: src_host ,\tflows,src_host\n",
-        wanted: None,
-    },
-    Case {
-        tool: Tool::Nfacctd,
-        text: b"plugins: print[p]\nprint_output_file[p]: p.csv\nprint_output_file_append: true\nacct_flow_capture: flows.cap\nprint_refresh_time: 0\n",
-        wanted: Some(ConfigFault::At {
-            line: 5,
-            cause: ConfigCause::BadValue,
-        }),
-    },
-    Case {
-        tool: Tool::Nfacctd,
-        text: b"plugins: print[p]\nprint_output_file[p]: p.csv\nprint_output_file_append: true\nacct_flow_capture: flows.cap\nprint_refresh_time: 86400\n",
-        wanted: None,
-    },
-    Case {
-        tool: Tool::Nfacctd,
-        text: b"plugins: print[p]\nprint_output_file[p]: p.csv\nprint_output_file_append: true\nacct_flow_capture: flows.cap\nprint_refresh_time: 86401\n",
-        wanted: Some(ConfigFault::At {
-            line: 5,
-            cause: ConfigCause::BadValue,
-        }),
-    },
-    Case {
-        tool: Tool::Nfacctd,
-        text: b"plugins: print[p]\nprint_output_file[p]: p.csv\nprint_output_file_append: true\nacct_flow_capture: flows.cap\nacct_cache_entries: 65536\nacct_ring_records: 65536\n",
-        wanted: None,
-    },
-    Case {
-        tool: Tool::Nfacctd,
-        text: b"plugins: print[p]\nprint_output_file[p]: p.csv\nprint_output_file_append: true\nacct_flow_capture: flows.cap\nacct_ring_records: 65537\n",
-        wanted: Some(ConfigFault::At {
-            line: 5,
-            cause: ConfigCause::BadValue,
-        }),
-    },
-    Case {
-        tool: Tool::Nfacctd,
-        text: b"plugins: print[p]\nprint_output_file[p]: p.csv\nprint_output_file_append: true\nacct_flow_capture: flows.cap\nnfacctd_port: 0\n",
-        wanted: Some(ConfigFault::At {
-            line: 5,
-            cause: ConfigCause::BadValue,
-        }),
-    },
-    Case {
-        tool: Tool::Nfacctd,
-        text: b"plugins: print[p]\nprint_output_file[p]: p.csv\nprint_output_file_append: true\nacct_flow_capture: flows.cap\nnfacctd_port: 65535\n",
-        wanted: None,
-    },
-    Case {
-        tool: Tool::Nfacctd,
-        text: b"plugins: print[p]\nprint_output_file[p]: p.csv\nprint_output_file_append: true\nacct_flow_capture: flows.cap\nnfacctd_port: 65536\n",
-        wanted: Some(ConfigFault::At {
-            line: 5,
-            cause: ConfigCause::BadValue,
-        }),
-    },
-    Case {
-        tool: Tool::Nfacctd,
-        text: b"plugins: print[p]\nprint_output_file[p]: p.csv\nprint_output_file_append: true\nacct_flow_capture: flows.cap\nacct_replay_lag: 00\n",
-        wanted: Some(ConfigFault::At {
-            line: 5,
-            cause: ConfigCause::BadValue,
-        }),
-    },
-    Case {
-        tool: Tool::Nfacctd,
-        text: b"plugins: print[p]\nprint_output_file[p]: p.csv\nprint_output_file_append: true\nacct_flow_capture: flows.cap\nacct_replay_lag: 0\n",
-        wanted: None,
-    },
-    Case {
-        tool: Tool::Nfacctd,
-        text: b"plugins: print[p]\nprint_output_file[p]: p.csv\nprint_output_file_append: true\nacct_flow_capture: flows.cap\nacct_replay_lag: +1\n",
-        wanted: Some(ConfigFault::At {
-            line: 5,
-            cause: ConfigCause::BadValue,
-        }),
-    },
-    Case {
-        tool: Tool::Nfacctd,
-        text: b"plugins: print[p]\nprint_output_file[p]: p.csv\nprint_output_file_append: true\nacct_flow_capture: flows.cap\nacct_replay_lag: 4294967295\n",
-        wanted: None,
-    },
-    Case {
-        tool: Tool::Nfacctd,
-        text: b"plugins: print[p]\nprint_output_file[p]: p.csv\nprint_output_file_append: true\nacct_flow_capture: flows.cap\nacct_replay_lag: 4294967296\n",
-        wanted: Some(ConfigFault::At {
-            line: 5,
-            cause: ConfigCause::BadValue,
-        }),
-    },
-    Case {
-        tool: Tool::Nfacctd,
-        text: b"plugins: print[p]\nprint_output_file[p]: p.csv\nprint_output_file_append: true\nacct_flow_capture: flows.cap\nacct_replay_lag: 99999999999999999999999\n",
-        wanted: Some(ConfigFault::At {
-            line: 5,
-            cause: ConfigCause::BadValue,
-        }),
-    },
-    Case {
-        tool: Tool::Nfacctd,
-        text: b"plugins: print[p]\nprint_output_file[p]: p.csv\nprint_output_file_append: true\nacct_flow_capture: flows.cap\nacct_bgp_hold: 0\n",
-        wanted: None,
-    },
-    Case {
-        tool: Tool::Nfacctd,
-        text: b"plugins: print[p]\nprint_output_file[p]: p.csv\nprint_output_file_append: true\nacct_flow_capture: flows.cap\nacct_bgp_hold: 2\n",
-        wanted: Some(ConfigFault::At {
-            line: 5,
-            cause: ConfigCause::BadValue,
-        }),
-    },
-    Case {
-        tool: Tool::Nfacctd,
-        text: b"plugins: print[p]\nprint_output_file[p]: p.csv\nprint_output_file_append: true\nacct_flow_capture: flows.cap\nacct_bgp_hold: 3\n",
-        wanted: None,
-    },
-    Case {
-        tool: Tool::Nfacctd,
-        text: b"plugins: print[p]\nprint_output_file[p]: p.csv\nprint_output_file_append: true\nacct_flow_capture: flows.cap\nacct_stop_after: 0\n",
-        wanted: Some(ConfigFault::At {
-            line: 5,
-            cause: ConfigCause::BadValue,
-        }),
-    },
-    Case {
-        tool: Tool::Nfacctd,
-        text: b"plugins: print[p]\nprint_output_file[p]: p.csv\nprint_output_file_append: true\nacct_flow_capture: flows.cap\nbgp_daemon: yes\n",
-        wanted: Some(ConfigFault::At {
-            line: 5,
-            cause: ConfigCause::BadValue,
-        }),
-    },
-    Case {
-        tool: Tool::Nfacctd,
-        text: b"plugins: print[p]\nprint_output_file[p]: p.csv\nprint_output_file_append: true\nacct_flow_capture: flows.cap\nacct_bgp_id: 0.0.0.0\n",
-        wanted: Some(ConfigFault::At {
-            line: 5,
-            cause: ConfigCause::BadValue,
-        }),
-    },
-    Case {
-        tool: Tool::Nfacctd,
-        text: b"plugins: print[p]\nprint_output_file[p]: p.csv\nprint_output_file_append: true\nacct_flow_capture: flows.cap\nacct_bgp_id: 192.0.2.1\n",
-        wanted: None,
-    },
-    Case {
-        tool: Tool::Nfacctd,
-        text: b"plugins: print[p]\nprint_output_file[p]: p.csv\nprint_output_file_append: true\nacct_flow_capture: flows.cap\nacct_bgp_id: 192.0.2.01\n",
-        wanted: Some(ConfigFault::At {
-            line: 5,
-            cause: ConfigCause::BadValue,
-        }),
-    },
-    Case {
-        tool: Tool::Nfacctd,
-        text: b"plugins: print[p]\nprint_output_file[p]: p.csv\nprint_output_file_append: true\nacct_flow_capture: flows.cap\nacct_bgp_id: ::\n",
-        wanted: Some(ConfigFault::At {
-            line: 5,
-            cause: ConfigCause::BadValue,
-        }),
-    },
-    Case {
-        tool: Tool::Nfacctd,
-        text: b"plugins: print[p]\nprint_output_file[p]: p.csv\nprint_output_file_append: true\nacct_flow_capture: flows.cap\nacct_bgp_id: 1::1\n",
-        wanted: Some(ConfigFault::At {
-            line: 5,
-            cause: ConfigCause::BadValue,
-        }),
-    },
-    Case {
-        tool: Tool::Nfacctd,
-        text: b"plugins: print[p]\nprint_output_file[p]: p.csv\nprint_output_file_append: true\nacct_flow_capture: flows.cap\nacct_bgp_id: ::ffff\n",
-        wanted: Some(ConfigFault::At {
-            line: 5,
-            cause: ConfigCause::BadValue,
-        }),
-    },
-    Case {
-        tool: Tool::Nfacctd,
-        text: b"plugins: print[p]\nprint_output_file[p]: p.csv\nprint_output_file_append: true\nacct_flow_capture: flows.cap\nacct_bgp_id: 1:2:3:4:5:6:7:8\n",
-        wanted: Some(ConfigFault::At {
-            line: 5,
-            cause: ConfigCause::BadValue,
-        }),
-    },
-    Case {
-        tool: Tool::Nfacctd,
-        text: b"plugins: print[p]\nprint_output_file[p]: p.csv\nprint_output_file_append: true\nacct_flow_capture: flows.cap\nacct_bgp_id: 1:2:3:4:5:6:7:8:9\n",
-        wanted: Some(ConfigFault::At {
-            line: 5,
-            cause: ConfigCause::BadValue,
-        }),
-    },
-    Case {
-        tool: Tool::Nfacctd,
-        text: b"plugins: print[p]\nprint_output_file[p]: p.csv\nprint_output_file_append: true\nacct_flow_capture: flows.cap\npre_tag_map: fffffffffffffffffffffffffffffffffffffffffffffffffffffffffffffffffffffffffffffffffffffffffffffffffffffffffffffffffffffffffffffffffffffffffffffffffffffffffffffffffffffffffffffffffffffffffffffffffffffffffffffffffffffffffffffffffffffffffffffffffffffffffffffff\n",
-        wanted: None,
-    },
-    Case {
-        tool: Tool::Nfacctd,
-        text: b"plugins: print[p]\nprint_output_file[p]: p.csv\nprint_output_file_append: true\nacct_flow_capture: flows.cap\npre_tag_map: ffffffffffffffffffffffffffffffffffffffffffffffffffffffffffffffffffffffffffffffffffffffffffffffffffffffffffffffffffffffffffffffffffffffffffffffffffffffffffffffffffffffffffffffffffffffffffffffffffffffffffffffffffffffffffffffffffffffffffffffffffffffffffffffff\n",
-        wanted: Some(ConfigFault::At {
-            line: 5,
-            cause: ConfigCause::BadValue,
-        }),
-    },
-    Case {
-        tool: Tool::Nfacctd,
-        text: b"plugins: print[p]\nprint_output_file[p]: p.csv\nprint_output_file_append: true\nacct_flow_capture: flows.cap\npre_tag_map:\n",
-        wanted: Some(ConfigFault::At {
-            line: 5,
-            cause: ConfigCause::BadValue,
-        }),
-    },
-    Case {
-        tool: Tool::Nfacctd,
-        text: b"plugins: print[p]\nprint_output_file[p]: p.csv\nprint_output_file_append: true\nacct_flow_capture: flows.cap\npre_tag_map: a:b c\n",
-        wanted: None,
-    },
-    Case {
-        tool: Tool::Pmbgpd,
-        text: b"nfacctd_port: bad\n",
-        wanted: Some(ConfigFault::At {
-            line: 1,
-            cause: ConfigCause::BadValue,
-        }),
-    },
-    Case {
-        tool: Tool::Pmbgpd,
-        text: b"nfacctd_port: bad\nwhat\n",
-        wanted: Some(ConfigFault::At {
-            line: 1,
-            cause: ConfigCause::BadValue,
-        }),
-    },
-    Case {
-        tool: Tool::Pmbgpd,
-        text: b"debug: 1\nnfacctd_port: bad\n\x80\n",
-        wanted: Some(ConfigFault::At {
-            line: 2,
-            cause: ConfigCause::BadValue,
-        }),
-    },
-    Case {
-        tool: Tool::Nfacctd,
-        text: b"plugins: print[p]\nprint_output_file[p]: p.csv\nprint_output_file_append: true\nacct_flow_capture: flows.cap\nacct_audit_file: flows.cap\n",
-        wanted: Some(ConfigFault::At {
-            line: 0,
-            cause: ConfigCause::SameName,
-        }),
-    },
-    Case {
-        tool: Tool::Nfacctd,
-        text: b"plugins: print[p]\nprint_output_file[p]: p.csv\nprint_output_file_append: true\nacct_flow_capture: flows.cap\nacct_audit_file: p.csv\n",
-        wanted: Some(ConfigFault::At {
-            line: 0,
-            cause: ConfigCause::SameName,
-        }),
-    },
-    Case {
-        tool: Tool::Nfacctd,
-        text: b"plugins: print[p]\nprint_output_file[p]: p.csv\nprint_output_file_append: true\nacct_flow_capture: flows.cap\npre_tag_map: p.csv\n",
-        wanted: Some(ConfigFault::At {
-            line: 0,
-            cause: ConfigCause::SameName,
-        }),
-    },
-    Case {
-        tool: Tool::Nfacctd,
-        text: b"plugins: print[p]\nprint_output_file[p]: p.csv\nprint_output_file_append: true\nacct_flow_capture: flows.cap\nsampling_map: audit.txt\n",
-        wanted: Some(ConfigFault::At {
-            line: 0,
-            cause: ConfigCause::SameName,
-        }),
-    },
-    Case {
-        tool: Tool::Nfacctd,
-        text: b"plugins: print[p]\nprint_output_file[p]: p.csv\nprint_output_file_append: true\nacct_flow_capture: flows.cap\nacct_route_capture: flows.cap\n",
-        wanted: Some(ConfigFault::At {
-            line: 0,
-            cause: ConfigCause::SameName,
-        }),
-    },
-    Case {
-        tool: Tool::Nfacctd,
-        text: b"plugins: print[p]\nprint_output_file[p]: p.csv\nprint_output_file_append: true\nacct_flow_capture: flows.cap\nacct_dump_file: p.csv\n",
-        wanted: None,
-    },
-    Case {
-        tool: Tool::Nfacctd,
-        text: b"plugins: print[p]\nprint_output_file[p]: p.csv\nprint_output_file_append: true\nacct_flow_capture: flows.cap\npre_tag_map: m\nbgp_agent_map: m\n",
-        wanted: None,
-    },
-    Case {
-        tool: Tool::Nfacctd,
-        text: b"plugins: print[p]\nprint_output_file[p]: p.csv\nprint_output_file_append: true\nacct_flow_capture: flows.cap\nacct_audit_file: ./p.csv\n",
-        wanted: None,
-    },
-    Case {
-        tool: Tool::Nfacctd,
-        text: b"plugins: print[p], print[q]\nprint_output_file_append: true\nprint_output_file: f\n",
-        wanted: Some(ConfigFault::At {
-            line: 0,
-            cause: ConfigCause::SameName,
-        }),
-    },
-    Case {
-        tool: Tool::Nfacctd,
-        text: b"plugins: memory[m]\nacct_memory_file: audit.txt\n",
-        wanted: Some(ConfigFault::At {
-            line: 0,
-            cause: ConfigCause::SameName,
-        }),
-    },
-    Case {
-        tool: Tool::Pmbgpd,
-        text: b"acct_route_capture: dump.txt\n",
-        wanted: Some(ConfigFault::At {
-            line: 0,
-            cause: ConfigCause::SameName,
-        }),
-    },
-    Case {
-        tool: Tool::Pmbgpd,
-        text: b"acct_route_capture: r\nacct_dump_file: r\n",
-        wanted: Some(ConfigFault::At {
-            line: 0,
-            cause: ConfigCause::SameName,
-        }),
-    },
-    Case {
-        tool: Tool::Pmbgpd,
-        text: b"acct_route_capture: audit.txt\nacct_flow_capture: audit.txt\n",
-        wanted: None,
-    },
-    Case {
-        tool: Tool::Pmbgpd,
-        text: b"pre_tag_map: dump.txt\n",
-        wanted: None,
-    },
+        kind: PluginKind::Memory,
+        plugin: b"m",
+        file: b"m.txt",
+        flow_capture: b"",
+        ..TAKEN
+    },
+    Taken {
+        text: b"aggregate: src_host ,\tflows,src_host\n",
+        flows: true,
+        ..TAKEN
+    },
+    Taken {
+        text: b"print_refresh_time: 86400\n",
+        refresh: 86400,
+        ..TAKEN
+    },
+    Taken {
+        text: b"acct_cache_entries: 65536\nacct_ring_records: 65536\n",
+        cache: 65536,
+        ring: 65536,
+        ..TAKEN
+    },
+    Taken {
+        text: b"nfacctd_port: 65535\n",
+        port: 65535,
+        ..TAKEN
+    },
+    Taken {
+        text: b"acct_replay_lag: 0\n",
+        ..TAKEN
+    },
+    Taken {
+        text: b"acct_replay_lag: 4294967295\n",
+        lag: 4294967295,
+        ..TAKEN
+    },
+    Taken {
+        text: b"acct_bgp_hold: 0\n",
+        hold: 0,
+        ..TAKEN
+    },
+    Taken {
+        text: b"acct_bgp_hold: 3\n",
+        hold: 3,
+        ..TAKEN
+    },
+    Taken {
+        text: b"acct_bgp_id: 192.0.2.1\n",
+        id: Addr::V4(0xc000_0201),
+        ..TAKEN
+    },
+    Taken {
+        text: b"pre_tag_map: fffffffffffffffffffffffffffffffffffffffffffffffffffffffffffffffffffffffffffffffffffffffffffffffffffffffffffffffffffffffffffffffffffffffffffffffffffffffffffffffffffffffffffffffffffffffffffffffffffffffffffffffffffffffffffffffffffffffffffffffffffffffffffffff\n",
+        pre_tag_map: b"fffffffffffffffffffffffffffffffffffffffffffffffffffffffffffffffffffffffffffffffffffffffffffffffffffffffffffffffffffffffffffffffffffffffffffffffffffffffffffffffffffffffffffffffffffffffffffffffffffffffffffffffffffffffffffffffffffffffffffffffffffffffffffffff",
+        ..TAKEN
+    },
+    Taken {
+        text: b"pre_tag_map: a:b c\n",
+        pre_tag_map: b"a:b c",
+        ..TAKEN
+    },
+    Taken {
+        text: b"acct_dump_file: p.csv\n",
+        dump: b"p.csv",
+        ..TAKEN
+    },
+    Taken {
+        text: b"pre_tag_map: m\nbgp_agent_map: m\n",
+        agent_map: b"m",
+        pre_tag_map: b"m",
+        ..TAKEN
+    },
+    Taken {
+        text: b"acct_audit_file: ./p.csv\n",
+        audit: b"./p.csv",
+        ..TAKEN
+    },
+];
+
+/// A configuration of pmbgpd, and the maps of tags, the captures of flows and of routes that it has.
+static OF_PMBGPD: [[&[u8]; 4]; 4] = [
+    [b"", b"", b"", b""],
+    [b"plugins: print[p]\n", b"", b"", b""],
+    [
+        b"acct_route_capture: audit.txt\nacct_flow_capture: audit.txt\n",
+        b"",
+        b"audit.txt",
+        b"audit.txt",
+    ],
+    [b"pre_tag_map: dump.txt\n", b"dump.txt", b"", b""],
 ];
 
 #[derive(Clone, Copy, PartialEq, Debug)]
@@ -918,309 +504,69 @@ enum Wanted {
     Both,
 }
 
-#[derive(Clone, Copy)]
-struct Line {
-    tool: Tool,
-    line: &'static str,
-    wanted: Wanted,
-}
+/// A command line of a tool, its words with blanks between them.
+type Line = (Tool, &'static str, Wanted);
 
 static LINES: [Line; 59] = [
-    Line {
-        tool: Tool::Nfacctd,
-        line: "-f a.conf",
-        wanted: Wanted::Config(b"a.conf"),
-    },
-    Line {
-        tool: Tool::Nfacctd,
-        line: "-fFILE",
-        wanted: Wanted::Config(b"FILE"),
-    },
-    Line {
-        tool: Tool::Nfacctd,
-        line: "-f=FILE",
-        wanted: Wanted::Config(b"FILE"),
-    },
-    Line {
-        tool: Tool::Nfacctd,
-        line: "-f=",
-        wanted: Wanted::Config(b""),
-    },
-    Line {
-        tool: Tool::Nfacctd,
-        line: "-f -",
-        wanted: Wanted::Config(b"-"),
-    },
-    Line {
-        tool: Tool::Nfacctd,
-        line: "-f a --",
-        wanted: Wanted::Config(b"a"),
-    },
-    Line {
-        tool: Tool::Nfacctd,
-        line: "-f -x",
-        wanted: Wanted::Refused,
-    },
-    Line {
-        tool: Tool::Nfacctd,
-        line: "-f --",
-        wanted: Wanted::Refused,
-    },
-    Line {
-        tool: Tool::Nfacctd,
-        line: "-f a -f b",
-        wanted: Wanted::Refused,
-    },
-    Line {
-        tool: Tool::Nfacctd,
-        line: "a.conf",
-        wanted: Wanted::Refused,
-    },
-    Line {
-        tool: Tool::Nfacctd,
-        line: "-f a b",
-        wanted: Wanted::Refused,
-    },
-    Line {
-        tool: Tool::Nfacctd,
-        line: "-f",
-        wanted: Wanted::Refused,
-    },
-    Line {
-        tool: Tool::Nfacctd,
-        line: "--help",
-        wanted: Wanted::Refused,
-    },
-    Line {
-        tool: Tool::Nfacctd,
-        line: "-V",
-        wanted: Wanted::Refused,
-    },
-    Line {
-        tool: Tool::Nfacctd,
-        line: "",
-        wanted: Wanted::Neither,
-    },
-    Line {
-        tool: Tool::Nfacctd,
-        line: "--gen 3",
-        wanted: Wanted::Refused,
-    },
-    Line {
-        tool: Tool::Sfacctd,
-        line: "-f a.conf",
-        wanted: Wanted::Config(b"a.conf"),
-    },
-    Line {
-        tool: Tool::Sfacctd,
-        line: "-fFILE",
-        wanted: Wanted::Config(b"FILE"),
-    },
-    Line {
-        tool: Tool::Sfacctd,
-        line: "-f=FILE",
-        wanted: Wanted::Config(b"FILE"),
-    },
-    Line {
-        tool: Tool::Sfacctd,
-        line: "-f=",
-        wanted: Wanted::Config(b""),
-    },
-    Line {
-        tool: Tool::Sfacctd,
-        line: "-f -",
-        wanted: Wanted::Config(b"-"),
-    },
-    Line {
-        tool: Tool::Sfacctd,
-        line: "-f a --",
-        wanted: Wanted::Config(b"a"),
-    },
-    Line {
-        tool: Tool::Sfacctd,
-        line: "-f -x",
-        wanted: Wanted::Refused,
-    },
-    Line {
-        tool: Tool::Sfacctd,
-        line: "-f --",
-        wanted: Wanted::Refused,
-    },
-    Line {
-        tool: Tool::Sfacctd,
-        line: "-f a -f b",
-        wanted: Wanted::Refused,
-    },
-    Line {
-        tool: Tool::Sfacctd,
-        line: "a.conf",
-        wanted: Wanted::Refused,
-    },
-    Line {
-        tool: Tool::Sfacctd,
-        line: "-f a b",
-        wanted: Wanted::Refused,
-    },
-    Line {
-        tool: Tool::Sfacctd,
-        line: "-f",
-        wanted: Wanted::Refused,
-    },
-    Line {
-        tool: Tool::Sfacctd,
-        line: "--help",
-        wanted: Wanted::Refused,
-    },
-    Line {
-        tool: Tool::Sfacctd,
-        line: "-V",
-        wanted: Wanted::Refused,
-    },
-    Line {
-        tool: Tool::Sfacctd,
-        line: "",
-        wanted: Wanted::Neither,
-    },
-    Line {
-        tool: Tool::Sfacctd,
-        line: "--gen 3",
-        wanted: Wanted::Refused,
-    },
-    Line {
-        tool: Tool::Pmbgpd,
-        line: "-f a.conf",
-        wanted: Wanted::Config(b"a.conf"),
-    },
-    Line {
-        tool: Tool::Pmbgpd,
-        line: "-fFILE",
-        wanted: Wanted::Config(b"FILE"),
-    },
-    Line {
-        tool: Tool::Pmbgpd,
-        line: "-f=FILE",
-        wanted: Wanted::Config(b"FILE"),
-    },
-    Line {
-        tool: Tool::Pmbgpd,
-        line: "-f=",
-        wanted: Wanted::Config(b""),
-    },
-    Line {
-        tool: Tool::Pmbgpd,
-        line: "-f -",
-        wanted: Wanted::Config(b"-"),
-    },
-    Line {
-        tool: Tool::Pmbgpd,
-        line: "-f a --",
-        wanted: Wanted::Config(b"a"),
-    },
-    Line {
-        tool: Tool::Pmbgpd,
-        line: "-f -x",
-        wanted: Wanted::Refused,
-    },
-    Line {
-        tool: Tool::Pmbgpd,
-        line: "-f --",
-        wanted: Wanted::Refused,
-    },
-    Line {
-        tool: Tool::Pmbgpd,
-        line: "-f a -f b",
-        wanted: Wanted::Refused,
-    },
-    Line {
-        tool: Tool::Pmbgpd,
-        line: "a.conf",
-        wanted: Wanted::Refused,
-    },
-    Line {
-        tool: Tool::Pmbgpd,
-        line: "-f a b",
-        wanted: Wanted::Refused,
-    },
-    Line {
-        tool: Tool::Pmbgpd,
-        line: "-f",
-        wanted: Wanted::Refused,
-    },
-    Line {
-        tool: Tool::Pmbgpd,
-        line: "--help",
-        wanted: Wanted::Refused,
-    },
-    Line {
-        tool: Tool::Pmbgpd,
-        line: "-V",
-        wanted: Wanted::Refused,
-    },
-    Line {
-        tool: Tool::Pmbgpd,
-        line: "",
-        wanted: Wanted::Neither,
-    },
-    Line {
-        tool: Tool::Pmbgpd,
-        line: "--gen 3",
-        wanted: Wanted::Refused,
-    },
-    Line {
-        tool: Tool::Nfacctd,
-        line: "--generate=3",
-        wanted: Wanted::Generate(3),
-    },
-    Line {
-        tool: Tool::Nfacctd,
-        line: "--generate +3",
-        wanted: Wanted::Generate(3),
-    },
-    Line {
-        tool: Tool::Nfacctd,
-        line: "--generate 007",
-        wanted: Wanted::Generate(7),
-    },
-    Line {
-        tool: Tool::Nfacctd,
-        line: "--generate 100000",
-        wanted: Wanted::Generate(100000),
-    },
-    Line {
-        tool: Tool::Nfacctd,
-        line: "--generate 100001",
-        wanted: Wanted::Refused,
-    },
-    Line {
-        tool: Tool::Nfacctd,
-        line: "--generate 0",
-        wanted: Wanted::Refused,
-    },
-    Line {
-        tool: Tool::Nfacctd,
-        line: "--generate x",
-        wanted: Wanted::Refused,
-    },
-    Line {
-        tool: Tool::Nfacctd,
-        line: "-f a --generate 3",
-        wanted: Wanted::Both,
-    },
-    Line {
-        tool: Tool::Nfacctd,
-        line: "--generate 3 --generate 4",
-        wanted: Wanted::Refused,
-    },
-    Line {
-        tool: Tool::Sfacctd,
-        line: "--generate 3",
-        wanted: Wanted::Refused,
-    },
-    Line {
-        tool: Tool::Pmbgpd,
-        line: "--generate 3",
-        wanted: Wanted::Refused,
-    },
+    (Tool::Nfacctd, "-f a.conf", Wanted::Config(b"a.conf")),
+    (Tool::Nfacctd, "-fFILE", Wanted::Config(b"FILE")),
+    (Tool::Nfacctd, "-f=FILE", Wanted::Config(b"FILE")),
+    (Tool::Nfacctd, "-f=", Wanted::Config(b"")),
+    (Tool::Nfacctd, "-f -", Wanted::Config(b"-")),
+    (Tool::Nfacctd, "-f a --", Wanted::Config(b"a")),
+    (Tool::Nfacctd, "-f -x", Wanted::Refused),
+    (Tool::Nfacctd, "-f --", Wanted::Refused),
+    (Tool::Nfacctd, "-f a -f b", Wanted::Refused),
+    (Tool::Nfacctd, "a.conf", Wanted::Refused),
+    (Tool::Nfacctd, "-f a b", Wanted::Refused),
+    (Tool::Nfacctd, "-f", Wanted::Refused),
+    (Tool::Nfacctd, "--help", Wanted::Refused),
+    (Tool::Nfacctd, "-V", Wanted::Refused),
+    (Tool::Nfacctd, "", Wanted::Neither),
+    (Tool::Nfacctd, "--gen 3", Wanted::Refused),
+    (Tool::Sfacctd, "-f a.conf", Wanted::Config(b"a.conf")),
+    (Tool::Sfacctd, "-fFILE", Wanted::Config(b"FILE")),
+    (Tool::Sfacctd, "-f=FILE", Wanted::Config(b"FILE")),
+    (Tool::Sfacctd, "-f=", Wanted::Config(b"")),
+    (Tool::Sfacctd, "-f -", Wanted::Config(b"-")),
+    (Tool::Sfacctd, "-f a --", Wanted::Config(b"a")),
+    (Tool::Sfacctd, "-f -x", Wanted::Refused),
+    (Tool::Sfacctd, "-f --", Wanted::Refused),
+    (Tool::Sfacctd, "-f a -f b", Wanted::Refused),
+    (Tool::Sfacctd, "a.conf", Wanted::Refused),
+    (Tool::Sfacctd, "-f a b", Wanted::Refused),
+    (Tool::Sfacctd, "-f", Wanted::Refused),
+    (Tool::Sfacctd, "--help", Wanted::Refused),
+    (Tool::Sfacctd, "-V", Wanted::Refused),
+    (Tool::Sfacctd, "", Wanted::Neither),
+    (Tool::Sfacctd, "--gen 3", Wanted::Refused),
+    (Tool::Pmbgpd, "-f a.conf", Wanted::Config(b"a.conf")),
+    (Tool::Pmbgpd, "-fFILE", Wanted::Config(b"FILE")),
+    (Tool::Pmbgpd, "-f=FILE", Wanted::Config(b"FILE")),
+    (Tool::Pmbgpd, "-f=", Wanted::Config(b"")),
+    (Tool::Pmbgpd, "-f -", Wanted::Config(b"-")),
+    (Tool::Pmbgpd, "-f a --", Wanted::Config(b"a")),
+    (Tool::Pmbgpd, "-f -x", Wanted::Refused),
+    (Tool::Pmbgpd, "-f --", Wanted::Refused),
+    (Tool::Pmbgpd, "-f a -f b", Wanted::Refused),
+    (Tool::Pmbgpd, "a.conf", Wanted::Refused),
+    (Tool::Pmbgpd, "-f a b", Wanted::Refused),
+    (Tool::Pmbgpd, "-f", Wanted::Refused),
+    (Tool::Pmbgpd, "--help", Wanted::Refused),
+    (Tool::Pmbgpd, "-V", Wanted::Refused),
+    (Tool::Pmbgpd, "", Wanted::Neither),
+    (Tool::Pmbgpd, "--gen 3", Wanted::Refused),
+    (Tool::Nfacctd, "--generate=3", Wanted::Generate(3)),
+    (Tool::Nfacctd, "--generate +3", Wanted::Generate(3)),
+    (Tool::Nfacctd, "--generate 007", Wanted::Generate(7)),
+    (Tool::Nfacctd, "--generate 100000", Wanted::Generate(100000)),
+    (Tool::Nfacctd, "--generate 100001", Wanted::Refused),
+    (Tool::Nfacctd, "--generate 0", Wanted::Refused),
+    (Tool::Nfacctd, "--generate x", Wanted::Refused),
+    (Tool::Nfacctd, "-f a --generate 3", Wanted::Both),
+    (Tool::Nfacctd, "--generate 3 --generate 4", Wanted::Refused),
+    (Tool::Sfacctd, "--generate 3", Wanted::Refused),
+    (Tool::Pmbgpd, "--generate 3", Wanted::Refused),
 ];
 
 const MOST: usize = 1_048_576;
@@ -1235,20 +581,98 @@ fn fault_of(alloc: Global, tool: Tool, text: &[u8]) -> Result<Option<ConfigFault
     }
 }
 
-// The proof of a test needn't read the table.
-fn cases() -> &'static [Case] {
-    &CASES
+// The proof of a test needn't read the tables.
+fn faults() -> &'static [Fault] {
+    &FAULTS
+}
+
+fn faults_behind() -> &'static [FaultBehind] {
+    &FAULTS_BEHIND
+}
+
+fn taken_ones() -> &'static [Taken] {
+    &TAKEN_ONES
+}
+
+fn of_pmbgpd() -> &'static [[&'static [u8]; 4]] {
+    &OF_PMBGPD
 }
 
 fn lines() -> &'static [Line] {
     &LINES
 }
 
+// A text behind another one.
+fn joined(alloc: Global, base: &[u8], text: &[u8]) -> Result<Octets, NoMemory> {
+    let mut whole = Octets::new(alloc);
+    whole.extend(base)?;
+    whole.extend(text)?;
+    Ok(whole)
+}
+
 #[test]
-fn configurations_have_their_answers(rt: HostRuntime) -> Result<(), Fail> {
-    for (index, case) in cases().iter().enumerate() {
-        let found = fault_of(rt.alloc(), case.tool, case.text)?;
-        assert_eq!(rt; found, case.wanted, "configuration {index}");
+fn configurations_have_their_faults(rt: HostRuntime) -> Result<(), Fail> {
+    for (index, (tool, text, line, cause)) in faults().iter().enumerate() {
+        let wanted = ConfigFault::At {
+            line: *line,
+            cause: *cause,
+        };
+        let found = fault_of(rt.alloc(), *tool, text)?;
+        assert_eq!(rt; found, Some(wanted), "configuration {index}");
+    }
+    for (index, (text, line, cause)) in faults_behind().iter().enumerate() {
+        let wanted = ConfigFault::At {
+            line: *line,
+            cause: *cause,
+        };
+        let whole = joined(rt.alloc(), BASE, text)?;
+        let found = fault_of(rt.alloc(), Tool::Nfacctd, whole.as_slice())?;
+        assert_eq!(rt; found, Some(wanted), "behind the base, {index}");
+    }
+    Ok(())
+}
+
+fn has_plugin(config: &Config, wanted: &Taken) -> bool {
+    let [plugin] = config.plugins.as_slice() else {
+        return false;
+    };
+    plugin.kind == wanted.kind
+        && same(&plugin.name, wanted.plugin)
+        && same(&plugin.file, wanted.file)
+        && plugin.primitives.has(Column::SrcHost)
+        && plugin.primitives.flows == wanted.flows
+        && plugin.refresh == wanted.refresh
+        && plugin.cache == wanted.cache
+        && plugin.ring == wanted.ring
+}
+
+fn has_numbers(config: &Config, wanted: &Taken) -> bool {
+    config.tool == wanted.tool
+        && config.nfacctd_port == wanted.port
+        && config.acct_replay_lag == wanted.lag
+        && config.acct_bgp_hold == wanted.hold
+        && config.acct_bgp_id == wanted.id
+        && config.nfacctd_as == wanted.from.0
+        && config.sfacctd_as == wanted.from.1
+}
+
+fn has_names(config: &Config, wanted: &Taken) -> bool {
+    is(&config.pre_tag_map, wanted.pre_tag_map)
+        && is(&config.bgp_agent_map, wanted.agent_map)
+        && is(&config.acct_flow_capture, wanted.flow_capture)
+        && is(&config.acct_route_capture, wanted.route_capture)
+        && same(&config.acct_audit_file, wanted.audit)
+        && same(&config.acct_dump_file, wanted.dump)
+}
+
+#[test]
+fn configurations_are_read(rt: HostRuntime) -> Result<(), Fail> {
+    for (index, wanted) in taken_ones().iter().enumerate() {
+        let whole = joined(rt.alloc(), wanted.base, wanted.text)?;
+        let config = read(rt.alloc(), wanted.tool, whole.as_slice())?;
+        assert!(rt; has_plugin(&config, wanted), "the plugin of {index}");
+        assert!(rt; has_numbers(&config, wanted), "the numbers of {index}");
+        assert!(rt; has_names(&config, wanted), "the names of {index}");
     }
     Ok(())
 }
@@ -1264,8 +688,9 @@ fn words_in(alloc: Global, line: &str) -> Result<Vec<String>, AllocError> {
 }
 
 fn meets(alloc: Global, line: Line) -> Result<bool, Fail> {
-    let words = words_in(alloc, line.line)?;
-    Ok(match (read_words(alloc, line.tool, &words), line.wanted) {
+    let (tool, text, wanted) = line;
+    let words = words_in(alloc, text)?;
+    Ok(match (read_words(alloc, tool, &words), wanted) {
         (Ok(Words::Config(file)), Wanted::Config(wanted)) => file.as_slice() == wanted,
         (Ok(Words::Generate(number)), Wanted::Generate(wanted)) => number == wanted,
         (Err(UsageFault::Refused), Wanted::Refused) => true,
@@ -1416,21 +841,30 @@ fn has_default_truths(config: &Config) -> bool {
 }
 
 fn has_default_names(config: &Config) -> bool {
-    is(&config.pre_tag_map, b"")
-        && is(&config.acct_route_capture, b"")
-        && same(&config.acct_audit_file, b"audit.txt")
+    same(&config.acct_audit_file, b"audit.txt")
         && same(&config.acct_dump_file, b"dump.txt")
         && has_output(config, b"dump.txt")
         && !has_output(config, b"audit.txt")
 }
 
 #[test]
-fn an_empty_configuration_has_the_defaults(rt: HostRuntime) -> Result<(), Fail> {
-    let config = read(rt.alloc(), Tool::Pmbgpd, b"")?;
-    assert!(rt; has_default_numbers(&config));
-    assert!(rt; has_default_truths(&config));
-    assert!(rt; has_default_names(&config));
-    assert!(rt; config.plugins.is_empty());
+fn configurations_of_pmbgpd_have_the_defaults(rt: HostRuntime) -> Result<(), Fail> {
+    for (index, [text, map, flows, routes]) in of_pmbgpd().iter().enumerate() {
+        let config = read(rt.alloc(), Tool::Pmbgpd, text)?;
+        assert!(rt; has_default_numbers(&config), "the numbers of {index}");
+        assert!(rt; has_default_truths(&config), "the truths of {index}");
+        assert!(rt; has_default_names(&config), "the names of {index}");
+        assert!(rt; is(&config.pre_tag_map, map), "the map of {index}");
+        assert!(rt;
+            is(&config.acct_flow_capture, flows),
+            "the flows of {index}"
+        );
+        assert!(rt;
+            is(&config.acct_route_capture, routes),
+            "the routes of {index}"
+        );
+        assert!(rt; config.plugins.is_empty(), "the plugins of {index}");
+    }
     Ok(())
 }
 

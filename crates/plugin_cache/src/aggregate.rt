@@ -7,7 +7,7 @@ ghost use Rattle.acct_types.specs.Counts.{CountsFit, plus};
 ghost use Rattle.indexmap.specs.IndexMap.{IsUnique, spare};
 ghost use Rattle.plugin_cache.specs.Sums.{EntriesAddUp, HaveOnePurge, PurgesConserve, keys_in};
 
-use acct_types::{Counts, Key, List, NoMemory, keys_are_ordered};
+use acct_types::{Counts, Hashing, Key, List, NoMemory, keys_are_ordered};
 use indexmap::IndexMap;
 use std::alloc::Global;
 use std::marker::Model;
@@ -15,7 +15,7 @@ use std::marker::Model;
 /// Sums by key, in the order in which the keys came.
 #[derive(Drop)]
 pub struct Aggregate {
-    sums: IndexMap<Key, Counts>,
+    sums: IndexMap<Key, Counts, Hashing>,
 }
 
 impl Model for Aggregate {
@@ -30,7 +30,7 @@ impl Model for Aggregate {
 
 // Lends the entries in the order of their keys. What is sorted is small.
 fn lend_in_order(
-    sums: &IndexMap<Key, Counts>,
+    sums: &IndexMap<Key, Counts, Hashing>,
     alloc: Global,
 ) -> Result<Vec<(&Key, &Counts)>, NoMemory>
     ensures order { IfOk result (λ lent. IsSorted ⟦<Key as Ord>⟧.cmp (keys_in (map deref_pair lent.items))) }
@@ -59,7 +59,7 @@ fn copy_rows(lent: Vec<(&Key, &Counts)>, alloc: Global) -> Result<Vec<(Key, Coun
 
 // Takes the rows out in the order of their keys. The map keeps its room.
 fn take_rows(
-    sums: &mut IndexMap<Key, Counts>,
+    sums: &mut IndexMap<Key, Counts, Hashing>,
     alloc: Global,
 ) -> Result<List<(Key, Counts)>, NoMemory>
     ensures order { IfOk result (λ rows. IsStrictlySortedBy key_cmp (keys_in rows)) }
@@ -78,20 +78,24 @@ fn take_rows(
 impl Aggregate {
     ghost use Rattle.plugin_cache.specs.Sums.{added, count_in, has_key};
 
-    pub fn new(alloc: Global) -> Aggregate
+    pub fn new(alloc: Global, hashing: Hashing) -> Aggregate
         ensures { result ≡ [] }
     {
         Aggregate {
-            sums: IndexMap::new(alloc),
+            sums: IndexMap::with_hasher(alloc, hashing),
         }
     }
 
     // No sum yet, and room for so many keys.
-    pub(crate) fn with_room(alloc: Global, keys: usize) -> Result<Aggregate, NoMemory>
+    pub(crate) fn with_room(
+        alloc: Global,
+        hashing: Hashing,
+        keys: usize,
+    ) -> Result<Aggregate, NoMemory>
         ensures { IfOk result (λ sums. sums ≡ []) }
     {
         Ok(Aggregate {
-            sums: IndexMap::with_capacity(alloc, keys)?,
+            sums: IndexMap::with_capacity_and_hasher(alloc, keys, hashing)?,
         })
     }
 

@@ -2,7 +2,7 @@ ghost use Rattle.std.specs.Prelude.{◌≡◌, ◌<◌, IfSome};
 ghost use Rattle.plugin_cache.specs.Slices.{FewItemsFit, SlicesArePurged, SlicesConserve, window_of};
 
 use crate::{Aggregate, purges_conserve};
-use acct_types::{Item, Key, NoMemory, Purge, keys_are_ordered};
+use acct_types::{Hashing, Item, Key, NoMemory, Purge, keys_are_ordered};
 use std::alloc::Global;
 use std::marker::Model;
 
@@ -44,15 +44,20 @@ impl Cache {
     ghost use Rattle.plugin_cache.specs.Sums.{count_in, has_key};
 
     /// A cache that was given nothing, whose slices have at most `limit` keys and one window of `refresh` seconds, where
-    /// these are given. It asks for room for `limit` keys.
-    pub fn open(alloc: Global, limit: Option<u32>, refresh: Option<u32>) -> Result<Cache, NoMemory>
+    /// these are given. It asks for room for `limit` keys, which are looked up by `hashing`: no answer depends on that.
+    pub fn open(
+        alloc: Global,
+        hashing: Hashing,
+        limit: Option<u32>,
+        refresh: Option<u32>,
+    ) -> Result<Cache, NoMemory>
         requires limit { IfSome limit (λ keys. 0 < keys) }
         requires refresh { IfSome refresh (λ seconds. 0 < seconds) }
         ensures { IfOk result (λ cache. cache ≡ fresh limit refresh) }
     {
         let sums = match limit {
-            Some(keys) => Aggregate::with_room(alloc, keys as usize)?,
-            None => Aggregate::new(alloc),
+            Some(keys) => Aggregate::with_room(alloc, hashing, keys as usize)?,
+            None => Aggregate::new(alloc, hashing),
         };
         Ok(Cache {
             alloc,
