@@ -53,7 +53,7 @@ interface_value expanded octets place = if expanded then number_at octets (place
 unfoldable pub interface_at : Bool → List ℕ → ℕ → ℕ
 interface_at expanded octets place = if interface_format expanded octets place == 0 then interface_value expanded octets place else 0
 
--- a rate of 0 says nothing, and counts as 1
+-- a rate of 0 is there too, and counts as 1
 unfoldable pub rate_of : Bool → List ℕ → ℕ
 rate_of expanded octets = if sample_rate expanded octets == 0 then 1 else sample_rate expanded octets
 
