@@ -1,7 +1,7 @@
 ghost use Rattle.std.specs.Prelude.{◌≡◌, ◌<◌, List, ℕ, length, false, IfOk};
 ghost use Rattle.std.specs.Io.{ReadsAtMost, WritesAtMost};
 ghost use Rattle.std.specs.Io.KnownBytes.{ReadConsumes, WriteAppends};
-ghost use Rattle.outside_io.specs.Causes.{HasCause};
+ghost use Rattle.outside_io.specs.Causes.{HasCause, IsStillUnlessFailed};
 ghost use Rattle.outside_io.specs.FilePlace.{file_open_faults, file_read_faults, file_write_faults, file_state};
 ghost use Rattle.outside_io.specs.SayOut.{file_of, file_source_state, say_faults, say_state, writer_of};
 
@@ -73,6 +73,7 @@ impl<W: Write + Drop> Sink for SayOut<W> {
         ensures bound { WritesAtMost result piece.now }
         ensures progress { IfOk result (λ n. 0 < length piece.now → 0 < n) }
         ensures cause { HasCause (say_faults self.old) (say_faults self.new) result }
+        ensures still { IsStillUnlessFailed (say_faults self.old) (say_faults self.new) result }
         ensures bytes { WriteAppends (W.contents (writer_of self.old)) (W.contents (writer_of self.new)) result piece.now }
     {
         match self.writer.write(piece) {

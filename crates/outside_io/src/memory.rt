@@ -1,6 +1,6 @@
 ghost use Rattle.std.specs.Prelude.{◌≡◌, ◌≤◌, ◌<◌, ◌+◌, min, [], length, drop, Some, IfOk, IfErr, OnErr};
 ghost use Rattle.std.specs.Io.{ReadsAtMost, WritesAtMost};
-ghost use Rattle.outside_io.specs.Causes.{HasCause};
+ghost use Rattle.outside_io.specs.Causes.{HasCause, IsStillUnlessFailed};
 ghost use Rattle.outside_io.specs.Octets.{ReadTakes, EndsWhereDone, WriteAdds};
 ghost use Rattle.outside_io.specs.Plan.{plan_of, after_call, FailsNext, FailsWhere};
 
@@ -141,6 +141,7 @@ impl Sink for MemorySink {
         ensures octets { WriteAdds (Some (sink_held self.old)) (Some (sink_held self.new)) result piece.now }
         ensures progress { IfOk result (λ n. 0 < length piece.now → 0 < n) }
         ensures cause { HasCause (sink_faults self.old) (sink_faults self.new) result }
+        ensures still { IsStillUnlessFailed (sink_faults self.old) (sink_faults self.new) result }
         ensures count { IfOk result (λ n. n ≡ min (length piece.now) (sink_most self.old)) }
         ensures err { OnErr result (sink_held self.new ≡ sink_held self.old) }
         ensures fails { FailsWhere (FailsNext (sink_plan self.old)) result }

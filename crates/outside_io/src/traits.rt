@@ -1,7 +1,7 @@
 ghost use Rattle.std.specs.Prelude.{◌≡◌, ◌≢◌, ◌<◌, ◌≤◌, ◌∷◌, ◌++◌, ℕ, List, [], length, Bool, IsTrue, Some, IsSome, IfOk, OnOk, IsErrOf, MatchResult};
 ghost use Rattle.std.specs.Io.{ReadsAtMost, WritesAtMost};
 ghost use Rattle.std.specs.Io.KnownBytes.{prepend_known};
-ghost use Rattle.outside_io.specs.Causes.{HasCause, HasCauseAt, RisesWhere, RisesAt};
+ghost use Rattle.outside_io.specs.Causes.{HasCause, IsStillUnlessFailed, HasCauseAt, RisesWhere, RisesAt};
 ghost use Rattle.outside_io.specs.Octets.{Takes, ReadTakes, EndsWhereDone, WriteAdds};
 ghost use Rattle.outside_io.specs.Names.{begun, Puts, PutsFront};
 ghost use Rattle.outside_io.specs.States.{SourceState, SinkState, PlaceState};
@@ -34,7 +34,8 @@ pub trait Sink: Drop {
         ensures bound { WritesAtMost result piece.now }
         ensures octets { WriteAdds (state self.old).held (state self.new).held result piece.now }
         ensures progress { IfOk result (λ n. 0 < length piece.now → 0 < n) }
-        ensures cause { HasCause (state self.old).faults (state self.new).faults result };
+        ensures cause { HasCause (state self.old).faults (state self.new).faults result }
+        ensures still { IsStillUnlessFailed (state self.old).faults (state self.new).faults result };
 }
 
 /// Names with octets. Numbers of faults never fall, and a call changes those of its name alone.

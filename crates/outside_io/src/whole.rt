@@ -1,6 +1,6 @@
 ghost use Rattle.std.specs.Prelude.{◌≡◌, ◌≢◌, ◌≤◌, ◌<◌, ◌⊎◌, ◌++◌, ◌∷◌, List, ℕ, [], length, false, Some, IsTrue, IfOk, OnOk, OnErr, IsErrOf};
 ghost use Rattle.std.specs.Io.KnownBytes.{append_known, IsAtEnd};
-ghost use Rattle.outside_io.specs.Causes.{HasCause, Rose, RisesAt};
+ghost use Rattle.outside_io.specs.Causes.{HasCause, IsStillUnlessFailed, Rose, RisesAt};
 ghost use Rattle.outside_io.specs.Octets.{Takes, WritesFront};
 
 use crate::{IoFault, Place, Sink, Source};
@@ -62,6 +62,7 @@ pub fn write_all<K: Sink>(sink: &mut K, octets: &[u8]) -> Result<(), IoFault>
     ensures ok { OnOk result ((K.state sink.new).held ≡ append_known (K.state sink.old).held octets.now) }
     ensures err { OnErr result (WritesFront (K.state sink.old).held (K.state sink.new).held octets.now) }
     ensures cause { HasCause (K.state sink.old).faults (K.state sink.new).faults result }
+    ensures still { IsStillUnlessFailed (K.state sink.old).faults (K.state sink.new).faults result }
 {
     let mut rest = octets;
     while !rest.is_empty() {
