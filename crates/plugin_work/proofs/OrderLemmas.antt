@@ -1,5 +1,5 @@
 -- Rows in the order of their keys: each slice has a purge.
-use Rattle.std.proofs.Common.{◌≡◌, ◌∙◌, ◌∷◌, [], List, Bool, true, false, cond, Option, Some, None, refl, sym, ap, Ordering, Less, Equal, Greater, T}
+use Rattle.std.proofs.Common.{◌≡◌, ◌∙◌, ◌∷◌, [], List, Bool, true, false, cond, Some, refl, sym, ap, Ordering, Less, Equal, Greater, T}
 use Rattle.std.specs.Prelude.{◌&&◌}
 use Rattle.std.specs.List.{AllByRecursion}
 use Rattle.std.specs.List.Sorted.{IsStrictlySortedBy}

@@ -2,9 +2,6 @@
 use Rattle.std.proofs.Common.{◌≡◌, ◌∙◌, ◌≤◌, ◌+◌, ◌∷◌, ◌++◌, [], ℕ, List, Option, Some, None, refl, sym, ap, ap₂, arith, append_assoc, length}
 use Rattle.std.specs.Prelude.{map}
 use Rattle.std.specs.Io.KnownBytes.{append_known}
-use Rattle.acct_types.specs.Counts.{nothing, plus}
-use Rattle.acct_types.specs.declared.flow.Counts.{Counts}
-use Rattle.acct_types.specs.declared.cell.Cell.{Cell}
 use Rattle.acct_types.specs.declared.item.Item.{Item}
 use Rattle.acct_types.specs.declared.item.Purge.{Purge}
 use Rattle.config_keys.specs.declared.plugin.PluginConfig.{PluginConfig}
@@ -14,8 +11,9 @@ use Rattle.outside_io.specs.declared.ends.OutEnd.TheVariants.{Whole, Failed}
 use Rattle.out_text.specs.Purges.{purge_text}
 use Rattle.plugin_cache.specs.Slices.{Entry, IsPurgeOf, OneForEach, Slice, Timed, entries_in, timed}
 use Rattle.plugin_cache.specs.Sums.{HaveOnePurge}
-use Rattle.plugin_work.specs.Output.{HaveOneOutput, entries_of, slices_in, texts_of, totals_of}
-use Rattle.plugin_work.specs.Sinks.{IsWritten, SinkState}
+use Rattle.plugin_work.specs.Output.{HaveOneOutput, entries_of, slices_in, texts_of}
+use Rattle.plugin_work.specs.Sinks.{IsWritten}
+use Rattle.outside_io.specs.States.{SinkState}
 
 -- ---- purges
 
@@ -94,6 +92,7 @@ none_written text end sink whole apart = record {
   held = held_still sink.held;
   whole = whole;
   failed = λ failed. absurd (apart failed);
+  kept = λ _. refl;
   later = omega arith;
 }
 
@@ -111,6 +110,7 @@ written_joined first next end before between now x y =
       held = y.held ∙ ap (λ (held : Option (List ℕ)). append_known held y.front) x.held ∙ append_twice before.held x.front y.front;
       whole = y.whole;
       failed = λ failed. rose_later before.faults between.faults now.faults x.later (y.failed failed);
+      kept = λ apart. y.kept apart ∙ x.kept (λ e. cc e);
       later = omega (arith, x.later, y.later);
     }
 
@@ -123,5 +123,6 @@ written_further first next end before now none x = record {
   held = x.held;
   whole = λ whole. ap₂ (λ (m n : List ℕ). m ++ n) (x.whole whole) (none whole);
   failed = x.failed;
+  kept = x.kept;
   later = x.later;
 }

@@ -13,10 +13,11 @@ use Rattle.out_text.specs.Purges.{purge_text}
 use Rattle.config_keys.specs.declared.plugin.PluginConfig.{PluginConfig}
 use Rattle.outside_io.specs.declared.ends.OutEnd.{OutEnd}
 use Rattle.outside_io.specs.declared.ends.OutEnd.TheVariants.{Whole, Failed, Memory}
-use Rattle.plugin_cache.specs.Slices.{AnswersEnd, AnswersEntry, CacheState, FewItemsFit, IsAtMost, IsLetGo, OneForEach, Slice, SlicesArePurged, SumUpTo, Timed, after, completes, fresh, is_empty, let_go, rows_in, timed}
+use Rattle.plugin_cache.specs.Slices.{AnswersEnd, AnswersEntry, CacheState, FewItemsFit, IsAtMost, IsLetGo, OneForEach, Slice, SlicesArePurged, SumUpTo, Timed, after, completes, fresh, is_empty, let_go, timed}
 use Rattle.plugin_work.specs.Output.{ArePurgesOf, OutputsConserve, entries_of, limit_of, refresh_of, texts_of, timed_items, totals_of}
 use Rattle.plugin_work.specs.Plugins.{Ends, HasTaken, IsFew, IsLastWritten, PluginState, if_whole, passed_over}
-use Rattle.plugin_work.specs.Sinks.{IsWritten, SinkState}
+use Rattle.plugin_work.specs.Sinks.{IsWritten}
+use Rattle.outside_io.specs.States.{SinkState}
 use Rattle.plugin_work.proofs.OutputLemmas.{append_none, each_joined, none_written, one_longer, texts_joined, timed_all, timed_more, written_further, written_joined}
 use Rattle.plugin_work.proofs.OrderLemmas.{purges_there}
 use Rattle.plugin_work.proofs.TotalLemmas.{totals_more}

@@ -11,7 +11,8 @@ use Rattle.plugin_cache.specs.Slices.{CacheState, Entry, IsAtMost, IsLetGo, OneF
 use Rattle.outside_io.specs.declared.ends.OutEnd.{OutEnd}
 use Rattle.outside_io.specs.declared.ends.OutEnd.TheVariants.{Whole}
 use Rattle.plugin_work.specs.Output.{ArePurgesOf, entries_of, limit_of, refresh_of, texts_of, timed_items, totals_of}
-use Rattle.plugin_work.specs.Sinks.{IsWritten, SinkState}
+use Rattle.plugin_work.specs.Sinks.{IsWritten}
+use Rattle.outside_io.specs.States.{SinkState}
 
 -- A plugin: how it prints, the slice that it is at, its sink, how its output stands, how many items it took, and their sums.
 pub record PluginState : Type 0 where

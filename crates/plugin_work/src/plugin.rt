@@ -2,11 +2,11 @@ ghost use Rattle.std.specs.Prelude.{◌≡◌, ◌≢◌, ◌<◌, ◌+◌, ◌-
 ghost use Rattle.acct_types.specs.declared.item.Item.{Item as ItemValue};
 ghost use Rattle.plugin_work.specs.Output.{of_print};
 ghost use Rattle.plugin_work.specs.Plugins.{Ends, HasTaken, if_whole, passed_over};
-ghost use Rattle.plugin_work.specs.Sinks.{SinkState, state_of};
+ghost use Rattle.outside_io.specs.States.{SinkState};
 
 use crate::outputs_conserve;
 use crate::writing::{Printer, write_last, write_purge};
-use acct_types::{Counts, Item, NoMemory, Octets, keys_are_ordered};
+use acct_types::{Counts, Hashing, Item, NoMemory, Octets, keys_are_ordered};
 use config_keys::{PluginConfig, PluginKind};
 use outside_io::{OutEnd, Sink};
 use plugin_cache::{Cache, few_items_fit, slices_are_purged};
@@ -26,7 +26,6 @@ pub struct Plugin<W: Sink> {
 
 impl<W: Sink> Model for Plugin<W> {
     ghost use Rattle.plugin_work.specs.Plugins.{IsFew, PluginState};
-    ghost use Rattle.plugin_work.specs.Sinks.{state_of};
 
     ghost Value = { PluginState };
 
@@ -34,7 +33,7 @@ impl<W: Sink> Model for Plugin<W> {
       primitives = plugin.printer.primitives;
       layout = plugin.printer.layout;
       cache = plugin.cache;
-      sink = state_of W.held W.faults plugin.out;
+      sink = W.state plugin.out;
       end = plugin.end;
       taken = plugin.taken;
       counted = plugin.counted;
@@ -75,15 +74,20 @@ fn if_whole(end: OutEnd, counted: Counts) -> Counts
 
 impl<W: Sink> Plugin<W> {
     /// A plugin that took no item. After NoMemory `out` is given back as it was.
-    pub fn start(alloc: Global, config: &PluginConfig, out: W) -> Result<Plugin<W>, (W, NoMemory)>
-        ensures started { IfOk result (λ plugin. HasTaken config.now (state_of W.held W.faults out) [] plugin) }
+    pub fn start(
+        alloc: Global,
+        hashing: Hashing,
+        config: &PluginConfig,
+        out: W,
+    ) -> Result<Plugin<W>, (W, NoMemory)>
+        ensures started { IfOk result (λ plugin. HasTaken config.now (W.state out) [] plugin) }
         ensures none { IfOk result (λ plugin. plugin.taken ≡ 0) }
         ensures err { IfErr result (λ back. back.0 ≡ out) }
     {
         few_items_fit();
         let limit = of_print(config.kind, config.cache);
         let refresh = of_print(config.kind, config.refresh);
-        let Ok(cache) = Cache::open(alloc, limit, refresh) else {
+        let Ok(cache) = Cache::open(alloc, hashing, limit, refresh) else {
             return Err((out, NoMemory));
         };
         let printer = Printer {
@@ -130,7 +134,7 @@ impl<W: Sink> Plugin<W> {
     /// Purges the last slice, and gives the sink back.
     pub fn finish(self) -> PluginEnd<W>
         ensures ends { (config : _) (start : SinkState) (items : Sequence ItemValue) → HasTaken config start items self
-            → Ends config start items (state_of W.held W.faults result.out) result.end result.purged }
+            → Ends config start items (W.state result.out) result.end result.purged }
         ensures kept { self.end ≢ OutEnd.Whole → result.end ≡ self.end }
     {
         keys_are_ordered();

@@ -3,7 +3,7 @@ ghost use Rattle.acct_types.specs.Counts.{IsBelow};
 ghost use Rattle.config_keys.specs.Ranges.{IsWithin};
 
 use crate::{Plugin, PluginEnd};
-use acct_types::{Column, Counts, Item, Key, Layout, List, NoMemory, Primitives, Text};
+use acct_types::{Column, Counts, Hashing, Item, Key, Layout, List, NoMemory, Primitives, Text};
 use config_keys::{PluginConfig, PluginKind};
 use outside_io::{MemorySink, OutEnd};
 use std::alloc::Global;
@@ -216,7 +216,7 @@ fn run(
     }
     let config = config(alloc, case)?;
     let out = MemorySink::new(alloc, most, writes);
-    let Ok(mut plugin) = Plugin::start(alloc, &config, out) else {
+    let Ok(mut plugin) = Plugin::start(alloc, Hashing::fixed(), &config, out) else {
         return Err(NoMemory);
     };
     take_all(alloc, &mut plugin, case.items)?;

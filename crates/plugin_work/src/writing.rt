@@ -1,6 +1,6 @@
 ghost use Rattle.std.specs.Prelude.{◌≡◌, ◌≢◌};
 ghost use Rattle.out_text.specs.Purges.{purge_text};
-ghost use Rattle.plugin_work.specs.Sinks.{IsWritten, state_of};
+ghost use Rattle.plugin_work.specs.Sinks.{IsWritten};
 ghost use Rattle.plugin_work.specs.Plugins.{IsLastWritten};
 
 use acct_types::{Layout, NoMemory, Octets, Primitives, Purge};
@@ -21,7 +21,7 @@ pub struct Printer {
 // Writes the text of a purge.
 pub fn write_purge<W: Sink>(printer: &mut Printer, purge: &Purge, out: &mut W) -> OutEnd
     ensures written { IsWritten (purge_text printer.old.primitives printer.old.layout purge.now) result
-        (state_of W.held W.faults out.old) (state_of W.held W.faults out.new) }
+        (W.state out.old) (W.state out.new) }
     ensures primitives { printer.new.primitives ≡ printer.old.primitives }
     ensures layout { printer.new.layout ≡ printer.old.layout }
 {
@@ -45,7 +45,7 @@ pub fn write_purge<W: Sink>(printer: &mut Printer, purge: &Purge, out: &mut W) -
 // Where the output is whole so far, purges what the cache has left, and writes the purge's text.
 pub fn write_last<W: Sink>(end: OutEnd, printer: &mut Printer, cache: Cache, out: &mut W) -> OutEnd
     ensures written { end ≡ OutEnd.Whole → (config : _) → printer.old.primitives ≡ config.primitives → printer.old.layout ≡ config.layout
-        → IsLastWritten config cache result (state_of W.held W.faults out.old) (state_of W.held W.faults out.new) }
+        → IsLastWritten config cache result (W.state out.old) (W.state out.new) }
     ensures end { end ≢ OutEnd.Whole → result ≡ end }
     ensures out { end ≢ OutEnd.Whole → out.new ≡ out.old }
 {

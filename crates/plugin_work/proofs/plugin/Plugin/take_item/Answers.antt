@@ -1,8 +1,7 @@
-use Rattle.std.proofs.Common.{◌≡◌, ◌≢◌, ◌∙◌, ◌+◌, ◌++◌, ◌∷◌, [], ap, refl, subst, sym, Some}
-use Rattle.outside_io.specs.declared.ends.OutEnd.TheVariants.{Whole, Memory}
+use Rattle.std.proofs.Common.{◌∙◌, ◌+◌, ◌++◌, ◌∷◌, [], ap, refl, subst, sym}
+use Rattle.outside_io.specs.declared.ends.OutEnd.TheVariants.{Memory}
 use Rattle.plugin_cache.specs.Slices.{AnswersEntry, timed}
 use Rattle.plugin_work.specs.Plugins.{HasTaken, PluginState, passed_over}
-use Rattle.plugin_work.specs.Sinks.{state_of}
 use Rattle.plugin_work.proofs.TakenLemmas.{comes_next, few_more, goes_along, none_complete, passed, without_memory}
 use Rattle.plugin_work.proofs.plugin.Plugin.take_item.Goals as goal
 
@@ -21,7 +20,7 @@ returns-in_default-add-clause-takes g c config start items taken =
       primitives = c.self.inside.printer.primitives;
       layout = c.self.inside.printer.layout;
       cache = c.self.inside.cache;
-      sink = state_of g.W.Sink.held g.W.Sink.faults c.self.inside.out;
+      sink = g.W.Sink.state c.self.inside.out;
       end = c.self.inside.end;
       taken = c.self.inside.taken;
       counted = c.self.inside.counted;
@@ -30,7 +29,7 @@ returns-in_default-add-clause-takes g c config start items taken =
       primitives = c.self.inside.printer.primitives;
       layout = c.self.inside.printer.layout;
       cache = c.add.new.self;
-      sink = state_of g.W.Sink.held g.W.Sink.faults c.self.inside.out;
+      sink = g.W.Sink.state c.self.inside.out;
       end = Memory;
       taken = c.self.inside.taken + 1;
       counted = c.plus-self-inside.result;
@@ -49,7 +48,7 @@ returns-in_default-completed-clause-takes g c config start items taken =
       primitives = c.self.inside.printer.primitives;
       layout = c.self.inside.printer.layout;
       cache = c.self.inside.cache;
-      sink = state_of g.W.Sink.held g.W.Sink.faults c.self.inside.out;
+      sink = g.W.Sink.state c.self.inside.out;
       end = c.self.inside.end;
       taken = c.self.inside.taken;
       counted = c.self.inside.counted;
@@ -58,7 +57,7 @@ returns-in_default-completed-clause-takes g c config start items taken =
       primitives = c.self.inside.printer.primitives;
       layout = c.self.inside.printer.layout;
       cache = c.add.new.self;
-      sink = state_of g.W.Sink.held g.W.Sink.faults c.self.inside.out;
+      sink = g.W.Sink.state c.self.inside.out;
       end = c.self.inside.end;
       taken = c.self.inside.taken + 1;
       counted = c.plus-self-inside.result;
@@ -74,7 +73,7 @@ returns-clause-takes g c config start items taken =
       primitives = c.self.inside.printer.primitives;
       layout = c.self.inside.printer.layout;
       cache = c.self.inside.cache;
-      sink = state_of g.W.Sink.held g.W.Sink.faults c.self.inside.out;
+      sink = g.W.Sink.state c.self.inside.out;
       end = c.self.inside.end;
       taken = c.self.inside.taken;
       counted = c.self.inside.counted;
@@ -83,7 +82,7 @@ returns-clause-takes g c config start items taken =
       primitives = c.write_purge-self-inside.new.printer.primitives;
       layout = c.write_purge-self-inside.new.printer.layout;
       cache = c.add.new.self;
-      sink = state_of g.W.Sink.held g.W.Sink.faults c.write_purge-self-inside.new.out;
+      sink = g.W.Sink.state c.write_purge-self-inside.new.out;
       end = c.write_purge-self-inside.result;
       taken = c.self.inside.taken + 1;
       counted = c.plus-self-inside.result;
