@@ -1,10 +1,10 @@
 -- What an input tells over calls, with one more.
 use Rattle.std.proofs.Common.{◌≡◌, ◌∙◌, ◌∷◌, ◌++◌, [], ℕ, Bool, List, Option, Some, None, refl, sym, ap, arith, inr, reverse, subst}
-use Rattle.std.specs.Prelude.{Result, Ok, Err, IfErr, IfOk, IsTrue}
+use Rattle.std.specs.Prelude.{Result, Ok, Err, IfErr, IfOk, IsTrue, MatchBool, false, true}
 use Rattle.std.proofs.lemmas.List.{append-nil, reverse-append}
 use Rattle.acct_types.specs.declared.datagram.Datagram.{Datagram}
 use Rattle.outside_io.specs.Calls.{OneCallMore, handed_out}
-use Rattle.outside_io.specs.Inputs.{EndsAs, HasInputCause, append_told, given, is_of_capture, prepend_told}
+use Rattle.outside_io.specs.Inputs.{EndsAs, HasInputCause, append_told, given, is_of_capture, prepend_told, EndsHere}
 use Rattle.outside_io.specs.Spans.{HandsOut, NothingInNoTime, SpansJoin}
 use Rattle.outside_io.specs.declared.input_fault.InputFault.{InputFault}
 use Rattle.outside_io.specs.declared.input_fault.InputFault.TheVariants.{ReadFault}
@@ -13,30 +13,40 @@ use Rattle.outside_io.specs.declared.ends.SideEnd.TheVariants.{Ended, TooMany}
 use Rattle.outside_io.specs.declared.ends.Which.{Which}
 use Rattle.outside_io.specs.declared.ends.Which.TheVariants.{Records, Messages, Octets}
 use Rattle.plugin_work.specs.Plugins.{PluginState}
-use Rattle.plugin_work.specs.Sinks.{SinkState}
+use Rattle.outside_io.specs.States.{SinkState}
 use Rattle.collect_core.specs.declared.collector.Core.{Core}
 use Rattle.collect_core.specs.declared.job.Job.{Job}
 use Rattle.collect_core.specs.declared.log.Log.{Log}
-use Rattle.collect_core.specs.Ends.{Answer, EndsFlows}
+use Rattle.collect_core.specs.Ends.{Answer, EndsFlows, EndsPlugin, ForEachPlugin}
 use Rattle.collect_core.specs.Flows.{AreWithin, flows_in}
 use Rattle.collect_core.specs.Most.{Most}
-use Rattle.collect_core.specs.Run.{HasFlowCause, InputState, IsRun, RunEnding}
+use Rattle.config_keys.specs.declared.plugin.PluginConfig.{PluginConfig}
+use Rattle.collect_core.specs.Course.{unrouted}
+use Rattle.collect_core.specs.Due.{Entry, due, taken}
+use Rattle.collect_core.specs.Run.{HasInputEnd, IsRun, RunEnding}
+use Rattle.collect_core.proofs.CourseLemmas.{all_taken}
+use Rattle.outside_io.specs.States.{InputState}
 use Rattle.collect_core.specs.Running.{GoesOn, HasAnswered, HasEnded, HasRun, HasTakenAll, PassesLimit}
 use Rattle.collect_core.proofs.FlowLemmas.{within_limits}
 use Rattle.collect_core.proofs.WrittenLemmas.{rose_later}
 
 -- what an input tells of one call
-pub record Tells (before after : InputState) (answer : Answer) : Type 0 where
+pub record Tells (before after : InputState Datagram) (answer : Answer) : Type 0 where
   pub left : prepend_told (given answer) after.left ≡ before.left
   pub handed : after.handed ≡ append_told before.handed (given answer)
   pub ends : EndsAs before.left before.ending answer
   pub ending : after.ending ≡ before.ending
+  pub ended : answer ≡ Ok None → IsTrue after.ended
   pub cause : HasInputCause before.faults after.faults answer
   pub of_capture : IfErr answer (λ fault. IsTrue (is_of_capture fault) → IsTrue before.captured)
   pub captured : after.captured ≡ before.captured
 
+-- an answer that none is left ends the input
+pub says_ended : (before now : Bool) (answer : Answer) → answer ≡ Ok None → EndsHere before now answer → IsTrue now
+says_ended before now answer is ends = subst (λ (a : Answer). EndsHere before now a) is ends
+
 -- no call
-pub none_answered : {F : Type 0} → NothingInNoTime Datagram → (Call : F → F → Answer → Type 0) (input : F) (told : InputState) → HasAnswered Call input input told told []
+pub none_answered : {F : Type 0} → NothingInNoTime Datagram → (Call : F → F → Answer → Type 0) (input : F) (told : InputState Datagram) → HasAnswered Call input input told told []
 none_answered none Call input told = record {
   calls = refl;
   hands_out = none told.left told.handed;
@@ -46,7 +56,7 @@ none_answered none Call input told = record {
 }
 
 -- one call more
-pub answered_more : {F : Type 0} → SpansJoin Datagram → (Call : F → F → Answer → Type 0) → OneCallMore Call → (before between after : F) (told_before told_between told_after : InputState) (answers : List Answer) (answer : Answer)
+pub answered_more : {F : Type 0} → SpansJoin Datagram → (Call : F → F → Answer → Type 0) → OneCallMore Call → (before between after : F) (told_before told_between told_after : InputState Datagram) (answers : List Answer) (answer : Answer)
     → HasAnswered Call before between told_before told_between answers → Call between after answer → Tells told_between told_after answer
     → HasAnswered Call before after told_before told_after (answers ++ answer ∷ [])
 answered_more join Call one before between after told_before told_between told_after answers answer had call tells = record {
@@ -71,7 +81,7 @@ left_still None = refl
 left_still (Some events) = refl
 
 -- what a call says of the end holds after it
-ends_after : (before after : InputState) (answer : Answer) → Tells before after answer → EndsAs after.left after.ending answer
+ends_after : (before after : InputState Datagram) (answer : Answer) → Tells before after answer → EndsAs after.left after.ending answer
 ends_after before after (Ok (Some d)) tells = tt
 ends_after before after (Ok None) tells =
     subst (λ (ending : Option InputFault). EndsAs after.left ending (Ok None)) (sym tells.ending)
@@ -81,11 +91,12 @@ ends_after before after (Err fault) tells =
     (subst (λ (left : Option (List Datagram)). EndsAs left before.ending (Err fault)) (sym tells.left ∙ left_still after.left) tells.ends)
 
 -- why an input gave no more, by its last answer
-pub has_cause : {F : Type 0} → (Call : F → F → Answer → Type 0) (before between : F) (told_before told_between told_after : InputState) (answers : List Answer) (answer : Answer)
-    → HasAnswered Call before between told_before told_between answers → Tells told_between told_after answer → HasFlowCause told_before told_after (answers ++ answer ∷ [])
+pub has_cause : {F : Type 0} → (Call : F → F → Answer → Type 0) (before between : F) (told_before told_between told_after : InputState Datagram) (answers : List Answer) (answer : Answer)
+    → HasAnswered Call before between told_before told_between answers → Tells told_between told_after answer → HasInputEnd told_before told_after (answers ++ answer ∷ [])
 has_cause Call before between told_before told_between told_after answers answer had tells = record {
   ends = λ last is. subst (λ (a : Answer). EndsAs told_after.left told_after.ending a) (one_last is.0 answers last answer is.1) (ends_after told_between told_after answer tells);
   ending = tells.ending ∙ had.ending;
+  ended = λ is. tells.ended (one_last is.0 answers (Ok None) answer is.1);
   later = omega (arith, had.later, tells.cause.later);
   failed = λ is. rose_later told_before.faults told_between.faults told_after.faults had.later (tells.cause.failed (one_last is.0 answers (Err ReadFault) answer is.1));
   of_capture = λ fault is of.
@@ -116,7 +127,7 @@ ends_by_limit job most answers Records passes = passes
 ends_by_limit job most answers Messages passes = passes
 
 -- all was taken, with the last answer
-pub taken_all : {F : Type 0} → SpansJoin Datagram → (Call : F → F → Answer → Type 0) → OneCallMore Call → (before between after : F) (told_before told_between told_after : InputState) (answers : List Answer) (answer : Answer)
+pub taken_all : {F : Type 0} → SpansJoin Datagram → (Call : F → F → Answer → Type 0) → OneCallMore Call → (before between after : F) (told_before told_between told_after : InputState Datagram) (answers : List Answer) (answer : Answer)
     → HasAnswered Call before between told_before told_between answers → Call between after answer → Tells told_between told_after answer
     → (job : Job) (most : Most) (starts : List SinkState) (start : SinkState) (collector : Core) (plugins : List PluginState) (log : Log) (audit : SinkState) (by : SideEnd)
     → EndsFlows job most (answers ++ answer ∷ []) by → HasRun job most starts start (flows_in job most (handed_out (answers ++ answer ∷ []))) collector plugins log audit
@@ -133,7 +144,7 @@ taken_all join Call one before between after told_before told_between told_after
     }
 
 -- all was taken, where the last answer hands out nothing
-pub taken_to_end : {F : Type 0} → SpansJoin Datagram → (Call : F → F → Answer → Type 0) → OneCallMore Call → (before between after : F) (told_before told_between told_after : InputState) (answers : List Answer) (answer : Answer)
+pub taken_to_end : {F : Type 0} → SpansJoin Datagram → (Call : F → F → Answer → Type 0) → OneCallMore Call → (before between after : F) (told_before told_between told_after : InputState Datagram) (answers : List Answer) (answer : Answer)
     → HasAnswered Call before between told_before told_between answers → Call between after answer → Tells told_between told_after answer → given answer ≡ []
     → (job : Job) (most : Most) (starts : List SinkState) (start : SinkState) (collector : Core) (plugins : List PluginState) (log : Log) (audit : SinkState) (left : ℕ) (by : SideEnd)
     → GoesOn job most starts start (handed_out answers) collector plugins log audit left → EndsFlows job most (answers ++ answer ∷ []) by
@@ -156,21 +167,37 @@ if_ok_three P Q R S (Ok x) follows p q r = follows x p q r
 if_ok_three P Q R S (Err e) follows p q r = p
 
 -- all was taken, and then the outputs came to their ends
-pub is_run : {F : Type 0} (job : Job) (most : Most) (Call : F → F → Answer → Type 0) (before after : F) (told_before told_after : InputState) (starts : List SinkState) (audit_before audit_after : SinkState)
+pub is_run : {F : Type 0} (job : Job) (most : Most) (Call : F → F → Answer → Type 0) (state : F → InputState Datagram) (before after : F) (starts : List SinkState) (audit_before audit_after : SinkState)
     (collector : Core) (states : List PluginState) (log : Log) (audit : SinkState) (by : SideEnd) (ending : RunEnding)
-    → (taken : HasTakenAll job most Call before after told_before told_after starts audit_before collector states log audit by) → ending.flow ≡ by → ending.route ≡ Ended
-    → HasEnded job most starts audit_before (flows_in job most (handed_out taken.answers)) ending.plugins ending.audit audit_after ending.totals
-    → IsRun job most Call before after told_before told_after starts audit_before audit_after ending
-is_run job most Call before after told_before told_after starts audit_before audit_after collector states log audit by ending taken flow route ended = record {
-  answers = taken.answers;
-  calls = taken.calls;
-  hands_out = taken.hands_out;
-  cause = taken.cause;
-  flow = subst (λ (side : SideEnd). EndsFlows job most taken.answers side) (sym flow) taken.ends;
+    → (run : HasTakenAll job most Call before after (state before) (state after) starts audit_before collector states log audit by) → ending.flow ≡ by → ending.route ≡ Ended
+    → HasEnded job most starts audit_before (flows_in job most (handed_out run.answers)) ending.plugins ending.audit audit_after ending.totals
+    → IsRun job most unrouted Call state before after starts audit_before audit_after ending
+is_run job most Call state before after starts audit_before audit_after collector states log audit by ending run flow route ended = record {
+  answers = run.answers;
+  calls = run.calls;
+  hands_out = run.hands_out;
+  cause = run.cause;
+  flow = subst (λ (side : SideEnd). EndsFlows job most run.answers side) (sym flow) run.ends;
   route = route;
-  plugins = ended.plugins_end;
+  plugins = subst (λ (entries : PluginConfig → List Entry). ForEachPlugin (λ plugin start plugin_ending. EndsPlugin plugin (entries plugin) start plugin_ending) job.config.plugins starts ending.plugins)
+      all_are_taken ended.plugins_end;
   plugins_in_memory = ended.plugins_in_memory;
   audit = ended.audit_written;
   audit_in_memory = ended.audit_in_memory;
   totals = ended.totals_are;
 }
+  where
+    entries_due : PluginConfig → List Entry
+    entries_due plugin = due job most unrouted plugin (flows_in job most (handed_out run.answers))
+
+    all_are_taken : entries_due ≡ (λ (plugin : PluginConfig). taken unrouted plugin (entries_due plugin))
+    all_are_taken = λ i plugin. sym (all_taken plugin (entries_due plugin)) i
+
+-- what holds where a test says yes, and where it says no
+pub on_yes : (P Q : Type 0) (test : Bool) → test ≡ true → MatchBool test P Q → P
+on_yes P Q true is holds = holds
+on_yes P Q false is holds = absurd (cc is)
+
+pub on_no : (P Q : Type 0) (test : Bool) → test ≡ false → MatchBool test P Q → Q
+on_no P Q true is holds = absurd (cc is)
+on_no P Q false is holds = holds

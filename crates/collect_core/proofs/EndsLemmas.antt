@@ -10,15 +10,10 @@ use Rattle.plugin_cache.specs.Slices.{timed as timed_item}
 use Rattle.plugin_cache.specs.Sums.{sums_of}
 use Rattle.plugin_work.specs.Output.{OutputsConserve, entries_of, limit_of, refresh_of, totals_of}
 use Rattle.plugin_work.specs.Plugins.{Ends, HasTaken, PluginState}
-use Rattle.plugin_work.specs.Sinks.{SinkState, state_of}
-use Rattle.plugin_work.specs.declared.plugin.PluginEnd.{PluginEnd}
+use Rattle.outside_io.specs.States.{SinkState}
 use Rattle.collect_core.specs.Due.{Entry, entry_of}
 use Rattle.collect_core.specs.Ends.{EndsPlugin, ForEachPlugin, PluginEnding, counted, timed}
 use Rattle.collect_core.specs.Given.{AreGiven, IsGiven}
-
--- how a plugin ended
-abbrev pub ending_of : {W : Type 0} → (W → Option (List ℕ)) → (W → ℕ) → PluginEnd W → PluginEnding
-ending_of held faults end = record { sink = state_of held faults end.out; end = end.end; purged = end.purged }
 
 -- whatever items a plugin took, it ends so
 abbrev pub Finishes : PluginState → PluginEnding → Type 0

@@ -9,7 +9,8 @@ use Rattle.acct_types.specs.declared.flow.FlowRecord.{FlowRecord}
 use Rattle.acct_types.specs.declared.item.Item.{Item}
 use Rattle.config_keys.specs.declared.plugin.PluginConfig.{PluginConfig}
 use Rattle.plugin_work.specs.Plugins.{HasTaken, PluginState}
-use Rattle.plugin_work.specs.Sinks.{SinkState}
+use Rattle.outside_io.specs.States.{SinkState}
+use Rattle.collect_core.specs.Course.{unrouted}
 use Rattle.collect_core.specs.declared.job.Job.{Job}
 use Rattle.collect_core.specs.Due.{Entry, entries_from, entry_at, entry_of}
 use Rattle.collect_core.specs.Given.{AreGiven, IsGiven}
@@ -78,26 +79,26 @@ same_given plugins starts some other states same given =
 
 -- the entries of one record more
 entries_more : (job : Job) (plugin : PluginConfig) (datagram moment row : ℕ) (flows : List FlowRecord) (flow : FlowRecord)
-    → entries_from job plugin datagram moment row (flows ++ flow ∷ []) ≡ entries_from job plugin datagram moment row flows ++ entry_at job plugin datagram moment (row + length flows) flow ∷ []
-entries_more job plugin datagram moment row [] flow = ap (λ (n : ℕ). entry_at job plugin datagram moment n flow ∷ []) (sym (add-zero row))
+    → entries_from job unrouted plugin datagram moment row (flows ++ flow ∷ []) ≡ entries_from job unrouted plugin datagram moment row flows ++ entry_at job unrouted plugin datagram moment (row + length flows) flow ∷ []
+entries_more job plugin datagram moment row [] flow = ap (λ (n : ℕ). entry_at job unrouted plugin datagram moment n flow ∷ []) (sym (add-zero row))
 entries_more job plugin datagram moment row (first ∷ flows) flow =
     let place : row + 1 + length flows ≡ row + length (first ∷ flows) = omega arith in
-    ap (λ (entries : List Entry). entry_at job plugin datagram moment row first ∷ entries)
+    ap (λ (entries : List Entry). entry_at job unrouted plugin datagram moment row first ∷ entries)
     (entries_more job plugin datagram moment (row + 1) flows flow
-    ∙ ap (λ (n : ℕ). entries_from job plugin datagram moment (row + 1) flows ++ entry_at job plugin datagram moment n flow ∷ []) place)
+    ∙ ap (λ (n : ℕ). entries_from job unrouted plugin datagram moment (row + 1) flows ++ entry_at job unrouted plugin datagram moment n flow ∷ []) place)
 
 -- the entries up to one record more
 pub row_more : (job : Job) (plugin : PluginConfig) (datagram moment : ℕ) (earlier : List Entry) (rows : List FlowRecord) (i : ℕ) (d : FlowRecord) → i < length rows
-    → (earlier ++ entries_from job plugin datagram moment 1 (take i rows)) ++ entry_at job plugin datagram moment (i + 1) (get_or rows i d) ∷ []
-    ≡ earlier ++ entries_from job plugin datagram moment 1 (take (i + 1) rows)
+    → (earlier ++ entries_from job unrouted plugin datagram moment 1 (take i rows)) ++ entry_at job unrouted plugin datagram moment (i + 1) (get_or rows i d) ∷ []
+    ≡ earlier ++ entries_from job unrouted plugin datagram moment 1 (take (i + 1) rows)
 row_more job plugin datagram moment earlier rows i d more =
     let flow = get_or rows i d in
-    let so_far = entries_from job plugin datagram moment 1 (take i rows) in
+    let so_far = entries_from job unrouted plugin datagram moment 1 (take i rows) in
     let place : 1 + length (take i rows) ≡ i + 1 = omega (arith, length-take-le i rows (omega arith)) in
-    append_assoc earlier so_far (entry_at job plugin datagram moment (i + 1) flow ∷ [])
+    append_assoc earlier so_far (entry_at job unrouted plugin datagram moment (i + 1) flow ∷ [])
     ∙ ap (λ (entries : List Entry). earlier ++ entries)
-    (sym (ap (entries_from job plugin datagram moment 1) (take_more rows i d more) ∙ entries_more job plugin datagram moment 1 (take i rows) flow
-    ∙ ap (λ (n : ℕ). so_far ++ entry_at job plugin datagram moment n flow ∷ []) place))
+    (sym (ap (entries_from job unrouted plugin datagram moment 1) (take_more rows i d more) ∙ entries_more job plugin datagram moment 1 (take i rows) flow
+    ∙ ap (λ (n : ℕ). so_far ++ entry_at job unrouted plugin datagram moment n flow ∷ []) place))
 
 -- no entries are given where there is no plugin
 pub none_at_all : (plugins : List PluginConfig) (starts : List SinkState) (some other : PluginConfig → List Entry) (states : List PluginState) → length states ≡ 0 → AreGiven plugins starts some states → AreGiven plugins starts other states
@@ -112,16 +113,16 @@ few_rows (state ∷ states) rows some room = let first : state.taken + rows ≤ 
 
 -- all plugins were given one record more
 pub row_given : (job : Job) (datagram moment : ℕ) (starts : List SinkState) (entries : PluginConfig → List Entry) (rows : List FlowRecord) (i : ℕ) (d : FlowRecord) (states : List PluginState) → i < length rows
-    → AreGiven job.config.plugins starts (λ plugin. (entries plugin ++ entries_from job plugin datagram moment 1 (take i rows)) ++ entry_at job plugin datagram moment (i + 1) (get_or rows i d) ∷ []) states
-    → AreGiven job.config.plugins starts (λ plugin. entries plugin ++ entries_from job plugin datagram moment 1 (take (i + 1) rows)) states
+    → AreGiven job.config.plugins starts (λ plugin. (entries plugin ++ entries_from job unrouted plugin datagram moment 1 (take i rows)) ++ entry_at job unrouted plugin datagram moment (i + 1) (get_or rows i d) ∷ []) states
+    → AreGiven job.config.plugins starts (λ plugin. entries plugin ++ entries_from job unrouted plugin datagram moment 1 (take (i + 1) rows)) states
 row_given job datagram moment starts entries rows i d states more given =
-    same_given job.config.plugins starts (λ plugin. (entries plugin ++ entries_from job plugin datagram moment 1 (take i rows)) ++ entry_at job plugin datagram moment (i + 1) (get_or rows i d) ∷ [])
-    (λ plugin. entries plugin ++ entries_from job plugin datagram moment 1 (take (i + 1) rows)) states
+    same_given job.config.plugins starts (λ plugin. (entries plugin ++ entries_from job unrouted plugin datagram moment 1 (take i rows)) ++ entry_at job unrouted plugin datagram moment (i + 1) (get_or rows i d) ∷ [])
+    (λ plugin. entries plugin ++ entries_from job unrouted plugin datagram moment 1 (take (i + 1) rows)) states
     (λ plugin. row_more job plugin datagram moment (entries plugin) rows i d more) given
 
 -- all records were given
 pub rows_given : (job : Job) (datagram moment : ℕ) (starts : List SinkState) (entries : PluginConfig → List Entry) (rows : List FlowRecord) (i : ℕ) (states : List PluginState) → length rows ≤ i
-    → AreGiven job.config.plugins starts (λ plugin. entries plugin ++ entries_from job plugin datagram moment 1 (take i rows)) states
-    → AreGiven job.config.plugins starts (λ plugin. entries plugin ++ entries_from job plugin datagram moment 1 rows) states
+    → AreGiven job.config.plugins starts (λ plugin. entries plugin ++ entries_from job unrouted plugin datagram moment 1 (take i rows)) states
+    → AreGiven job.config.plugins starts (λ plugin. entries plugin ++ entries_from job unrouted plugin datagram moment 1 rows) states
 rows_given job datagram moment starts entries rows i states all given =
-    subst (λ (taken : List FlowRecord). AreGiven job.config.plugins starts (λ plugin. entries plugin ++ entries_from job plugin datagram moment 1 taken) states) (take_all i rows all) given
+    subst (λ (taken : List FlowRecord). AreGiven job.config.plugins starts (λ plugin. entries plugin ++ entries_from job unrouted plugin datagram moment 1 taken) states) (take_all i rows all) given

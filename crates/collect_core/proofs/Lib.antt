@@ -1,5 +1,6 @@
 pub mod BehindLemmas
 pub mod CallLemmas
+pub mod CourseLemmas
 pub mod EndsLemmas
 pub mod FlowLemmas
 pub mod GivenLemmas

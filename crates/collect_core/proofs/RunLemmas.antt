@@ -12,6 +12,7 @@ use Rattle.flow_decode.specs.History.{DecoderState, Knows}
 use Rattle.flow_decode.specs.declared.decoder.Decoded.{Decoded}
 use Rattle.flow_templates.specs.declared.refusal.Cause.{Cause}
 use Rattle.config_keys.specs.declared.plugin.PluginConfig.{PluginConfig}
+use Rattle.out_text.specs.declared.event.Event.{Event}
 use Rattle.out_text.specs.declared.event.Event.TheVariants.{End}
 use Rattle.out_text.specs.declared.event.Totals.{Totals}
 use Rattle.out_text.specs.Events.{event_line, events_text}
@@ -19,11 +20,13 @@ use Rattle.outside_io.specs.declared.ends.OutEnd.{OutEnd}
 use Rattle.outside_io.specs.declared.ends.OutEnd.TheVariants.{Whole}
 use Rattle.outside_io.specs.declared.ends.Which.TheVariants.{Records, Octets}
 use Rattle.plugin_work.specs.Plugins.{PluginState}
-use Rattle.plugin_work.specs.Sinks.{IsWritten, SinkState}
+use Rattle.plugin_work.specs.Sinks.{IsWritten}
+use Rattle.outside_io.specs.States.{SinkState}
+use Rattle.collect_core.specs.Course.{unrouted}
 use Rattle.collect_core.specs.declared.collector.Core.{Core}
 use Rattle.collect_core.specs.declared.job.Job.{Job}
 use Rattle.collect_core.specs.declared.log.Log.{Log}
-use Rattle.collect_core.specs.Audit.{audit_text, causes_in, events_in, refusals_in, totals_of}
+use Rattle.collect_core.specs.Audit.{audit_text, causes_in, drops_in, refusals_in, told_in, totals_of}
 use Rattle.collect_core.specs.Due.{Entry, all_behind, decoded_in, due, entries_from, entry_of, over_all, records_in, records_of}
 use Rattle.collect_core.specs.Flows.{event_octets}
 use Rattle.collect_core.specs.Given.{AreGiven, IsGiven}
@@ -31,6 +34,7 @@ use Rattle.collect_core.specs.Most.{Most}
 use Rattle.collect_core.specs.Running.{GoesOn, HasRoom, HasRun, Stops}
 use Rattle.collect_core.specs.Seen.{HasSeen, IsFed}
 use Rattle.collect_core.proofs.BehindLemmas.{due_length, due_more, due_none, over_all_more, take_min}
+use Rattle.collect_core.proofs.CourseLemmas.{events_alone, nothing_dropped}
 use Rattle.collect_core.proofs.FlowLemmas.{count_least, fits_more, fits_no_more, octets_more, within_limits_more, within_limits_no_more}
 use Rattle.collect_core.proofs.WrittenLemmas.{nothing_written}
 
@@ -81,9 +85,10 @@ as_many configs starts entries others old new before after = given_length config
 -- ---- what was counted
 
 pub totals_are : (job : Job) (most : Most) (flows : List Datagram) (totals : Totals) → totals.datagrams ≡ length flows → totals.refused ≡ length (over_all (refusals_in job) flows)
-    → totals.records ≡ min most.records (length (records_of job flows)) → totals.dropped ≡ 0 → totals.messages ≡ 0 → totals.closed ≡ 0 → totals ≡ totals_of job most flows
+    → totals.records ≡ min most.records (length (records_of job flows)) → totals.dropped ≡ 0 → totals.messages ≡ 0 → totals.closed ≡ 0 → totals ≡ totals_of job most unrouted flows
 totals_are job most flows totals datagrams refused records dropped messages closed =
-    λ i. record { datagrams = datagrams i; refused = refused i; records = records i; dropped = dropped i; messages = messages i; closed = closed i }
+    let dropped_so : totals.dropped ≡ length (over_all (drops_in job most unrouted) flows) = dropped ∙ sym (ap (λ (events : List Event). length events) (nothing_dropped job most flows)) in
+    λ i. record { datagrams = datagrams i; refused = refused i; records = records i; dropped = dropped_so i; messages = messages i; closed = closed i }
 
 -- a datagram is refused once or not at all
 once : (answer : Result Decoded Cause) → length (causes_in answer) ≤ 1
@@ -106,7 +111,7 @@ none_run job most starts audit collector plugins log left seen totals given text
   run = record {
     seen = seen;
     totals = totals ∙ totals_are job most [] _ refl refl (omega arith) refl refl refl;
-    given = given_so job.config.plugins starts (λ _. []) (λ plugin. due job most plugin []) plugins (λ plugin. due_none job most plugin) given;
+    given = given_so job.config.plugins starts (λ _. []) (λ plugin. due job most unrouted plugin []) plugins (λ plugin. due_none job most plugin) given;
     written = subst (λ (e : OutEnd). IsWritten [] e audit audit) (sym end) (nothing_written audit);
     no_lines = text;
   };
@@ -118,9 +123,9 @@ pub run_more : (job : Job) (most : Most) (starts : List SinkState) (start : Sink
     (before after : Log) (audit then : SinkState) (rows given : List FlowRecord) (text : List ℕ) (count : ℕ)
     → HasRun job most starts start flows old plugins before audit → IsFed job flows d fed rows before.text text
     → fed.totals.records ≡ old.totals.records → (fed.totals.dropped ≡ old.totals.dropped) × (fed.totals.messages ≡ old.totals.messages) × (fed.totals.closed ≡ old.totals.closed)
-    → IsWritten (events_text (over_all (events_in job) flows) ++ text) after.end start then → after.text ≡ []
+    → IsWritten (events_text (over_all (told_in job) flows) ++ text) after.end start then → after.text ≡ []
     → count ≡ min (length rows) (most.records - fed.totals.records) → given ≡ take count rows
-    → AreGiven job.config.plugins starts (λ plugin. due job most plugin flows ++ entries_from job plugin fed.totals.datagrams d.moment 1 given) now
+    → AreGiven job.config.plugins starts (λ plugin. due job most unrouted plugin flows ++ entries_from job unrouted plugin fed.totals.datagrams d.moment 1 given) now
     → new.decoder ≡ fed.decoder → new.totals ≡ record fed.totals { records = fed.totals.records + count }
     → HasRun job most starts start (flows ++ d ∷ []) new now after then
 run_more job most starts start flows d old fed new plugins now before after audit then rows given text count had is kept others written no_lines few given_are are decoder totals = record {
@@ -135,10 +140,10 @@ run_more job most starts start flows d old fed new plugins now before after audi
       (ap (λ (t : Totals). t.datagrams) totals ∙ is.seen.datagrams)
       (ap (λ (t : Totals). t.refused) totals ∙ is.seen.refused)
       (ap (λ (t : Totals). t.records) totals ∙ counted)
-      (ap (λ (t : Totals). t.dropped) totals ∙ others.0 ∙ ap (λ (t : Totals). t.dropped) had.totals)
+      (ap (λ (t : Totals). t.dropped) totals ∙ others.0 ∙ ap (λ (t : Totals). t.dropped) had.totals ∙ ap (λ (events : List Event). length events) (nothing_dropped job most flows))
       (ap (λ (t : Totals). t.messages) totals ∙ others.1 ∙ ap (λ (t : Totals). t.messages) had.totals)
       (ap (λ (t : Totals). t.closed) totals ∙ others.2 ∙ ap (λ (t : Totals). t.closed) had.totals);
-  given = given_so job.config.plugins starts _ (λ plugin. due job most plugin (flows ++ d ∷ [])) now
+  given = given_so job.config.plugins starts _ (λ plugin. due job most unrouted plugin (flows ++ d ∷ [])) now
       (λ plugin. due_more job most plugin flows d fed.totals.datagrams given is.seen.datagrams first) are;
   written = subst (λ (t : List ℕ). IsWritten t after.end start then) lines written;
   no_lines = no_lines;
@@ -163,18 +168,18 @@ run_more job most starts start flows d old fed new plugins now before after audi
     first : given ≡ take (most.records - all) (records_in job (reverse flows) d)
     first = given_are ∙ ap (λ (n : ℕ). take n rows) few ∙ take_min (most.records - fed.totals.records) rows ∙ ap₂ (λ (n : ℕ) (rs : List FlowRecord). take n rs) room is.rows_are
 
-    lines : events_text (over_all (events_in job) flows) ++ text ≡ events_text (over_all (events_in job) (flows ++ d ∷ []))
+    lines : events_text (over_all (told_in job) flows) ++ text ≡ events_text (over_all (told_in job) (flows ++ d ∷ []))
     lines =
-        ap (λ (t : List ℕ). events_text (over_all (events_in job) flows) ++ t) (is.lines ∙ ap (λ (t : List ℕ). t ++ events_text (events_in job (reverse flows) d)) had.no_lines)
-        ∙ sym (flat_map-append event_line (over_all (events_in job) flows) (events_in job (reverse flows) d))
-        ∙ ap events_text (sym (over_all_more (events_in job) flows d))
+        ap (λ (t : List ℕ). events_text (over_all (told_in job) flows) ++ t) (is.lines ∙ ap (λ (t : List ℕ). t ++ events_text (told_in job (reverse flows) d)) had.no_lines)
+        ∙ sym (flat_map-append event_line (over_all (told_in job) flows) (told_in job (reverse flows) d))
+        ∙ ap events_text (sym (over_all_more (told_in job) flows d))
 
 -- whether the records are more than the limit by one datagram more
 pub record Passes (job : Job) (most : Most) (flows : List Datagram) (d : Datagram) (rows room : ℕ) : Type 0 where
   pub if_more : min rows room < rows → most.records < length (records_of job (flows ++ d ∷ []))
   pub more : most.records < length (records_of job (flows ++ d ∷ [])) → min rows room < rows
 
-pub passes_if_more : (job : Job) (most : Most) (flows : List Datagram) (d : Datagram) (old fed : Core) (rows : List FlowRecord) (before after : List ℕ) → old.totals ≡ totals_of job most flows
+pub passes_if_more : (job : Job) (most : Most) (flows : List Datagram) (d : Datagram) (old fed : Core) (rows : List FlowRecord) (before after : List ℕ) → old.totals ≡ totals_of job most unrouted flows
     → IsFed job flows d fed rows before after → fed.totals.records ≡ old.totals.records → length (records_of job flows) ≤ most.records
     → Passes job most flows d (length rows) (most.records - fed.totals.records)
 passes_if_more job most flows d old fed rows before after totals is kept few = record {
@@ -196,7 +201,7 @@ has_room job most starts start handed collector plugins log audit left few on = 
   datagrams = omega (arith, on.run.seen.datagrams, count_least handed, on.octets, few);
   refused = omega (arith, on.run.seen.datagrams, on.run.seen.refused, refused_few job [] handed);
   records = omega (arith, records);
-  taken = taken_few job.config.plugins starts (λ plugin. due job most plugin handed) plugins collector.totals.records
+  taken = taken_few job.config.plugins starts (λ plugin. due job most unrouted plugin handed) plugins collector.totals.records
       (λ plugin. omega (arith, due_length job most plugin handed, records)) on.run.given;
 }
   where
@@ -251,8 +256,9 @@ stops_by_octets job most starts start handed d collector plugins log audit left 
     }
 
 -- the whole audit
-pub audit_is : (job : Job) (most : Most) (flows : List Datagram) (totals : Totals) (text : List ℕ) → text ≡ event_line (End totals) → totals ≡ totals_of job most flows
-    → events_text (over_all (events_in job) flows) ++ text ≡ audit_text job most flows
+pub audit_is : (job : Job) (most : Most) (flows : List Datagram) (totals : Totals) (text : List ℕ) → text ≡ event_line (End totals) → totals ≡ totals_of job most unrouted flows
+    → events_text (over_all (told_in job) flows) ++ text ≡ audit_text job most unrouted flows
 audit_is job most flows totals text is same =
-    ap (λ (t : List ℕ). events_text (over_all (events_in job) flows) ++ t) (is ∙ ap (λ (t : Totals). event_line (End t)) same ∙ sym (append-nil (event_line (End (totals_of job most flows)))))
-    ∙ sym (flat_map-append event_line (over_all (events_in job) flows) (End (totals_of job most flows) ∷ []))
+    ap (λ (t : List ℕ). events_text (over_all (told_in job) flows) ++ t) (is ∙ ap (λ (t : Totals). event_line (End t)) same ∙ sym (append-nil (event_line (End (totals_of job most unrouted flows)))))
+    ∙ sym (flat_map-append event_line (over_all (told_in job) flows) (End (totals_of job most unrouted flows) ∷ []))
+    ∙ ap (λ (say : List Datagram → Datagram → List Event). events_text (over_all say flows ++ End (totals_of job most unrouted flows) ∷ [])) (sym (events_alone job most))

@@ -3,7 +3,7 @@ use Rattle.std.proofs.Common.{◌≡◌, ◌⊎◌, inl, inr, ◌∙◌, ◌+◌
 use Rattle.std.proofs.lemmas.List.{length-map, map-append, nil_from_length}
 use Rattle.config_keys.specs.declared.plugin.PluginConfig.{PluginConfig}
 use Rattle.plugin_work.specs.Plugins.{HasTaken, PluginState}
-use Rattle.plugin_work.specs.Sinks.{SinkState}
+use Rattle.outside_io.specs.States.{SinkState}
 use Rattle.collect_core.specs.Due.{Entry}
 use Rattle.collect_core.specs.Given.{AreGiven, IsGiven}
 

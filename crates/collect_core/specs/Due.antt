@@ -1,5 +1,5 @@
 -- The entries that a plugin is owed: one for each record of each datagram that is decoded, in their order.
-use Rattle.std.specs.Prelude.{ℕ, ◌+◌, ◌*◌, ◌/◌, List, [], ◌∷◌, ◌++◌, length, take, Result, Ok, Err, None, option_and_then}
+use Rattle.std.specs.Prelude.{ℕ, ◌+◌, ◌*◌, ◌/◌, Bool, not, List, [], ◌∷◌, ◌++◌, filter, length, take, Result, Ok, Err, option_and_then}
 use Rattle.acct_types.specs.declared.cell.Cell.{Cell}
 use Rattle.acct_types.specs.declared.datagram.Datagram.{Datagram}
 use Rattle.acct_types.specs.declared.flow.Counts.{Counts}
@@ -16,6 +16,7 @@ use Rattle.pretag_map.specs.declared.facts.Tags.{Tags}
 use Rattle.primitive_keys.specs.Facts.{facts_of}
 use Rattle.primitive_keys.specs.Keys.{key_cells_of}
 use Rattle.collect_core.specs.declared.job.Job.{Job}
+use Rattle.collect_core.specs.Course.{Course, route_at}
 use Rattle.collect_core.specs.Most.{Most}
 use Rattle.collect_core.specs.Job.{as_of, renormalises}
 
@@ -50,14 +51,16 @@ records_of job flows = over_all (records_in job) flows
 abbrev pub window_start : ℕ → ℕ → ℕ
 window_start seconds moment = moment / (1000 * seconds) * (1000 * seconds)
 
--- the tags that the first rule gives whose conditions all hold; there are no routes so far
-abbrev pub tags_in : Job → FlowRecord → Tags
-tags_in job flow = tags_of job.tags (facts_of flow (as_of (says job.config)) None None)
+-- the tags that the first rule gives whose conditions all hold, of a record of the datagram with this number
+abbrev pub tags_in : Job → Course → ℕ → FlowRecord → Tags
+tags_in job course datagram flow =
+    tags_of job.tags (facts_of flow (as_of (says job.config)) (route_at job course datagram flow flow.src) (route_at job course datagram flow flow.dst))
 
 -- the key for a plugin in a window that begins at this moment
-abbrev pub key_in : Job → PluginConfig → ℕ → FlowRecord → List Cell
-key_in job plugin window flow =
-    key_cells_of plugin.primitives flow (as_of (says job.config)) None None (tags_in job flow) (option_and_then (label_at job.tags) (tags_in job flow).label) window
+abbrev pub key_in : Job → Course → PluginConfig → ℕ → ℕ → FlowRecord → List Cell
+key_in job course plugin datagram window flow =
+    key_cells_of plugin.primitives flow (as_of (says job.config)) (route_at job course datagram flow flow.src) (route_at job course datagram flow flow.dst)
+    (tags_in job course datagram flow) (option_and_then (label_at job.tags) (tags_in job course datagram flow).label) window
 
 -- ---- entries
 
@@ -72,24 +75,38 @@ pub record Entry : Type 0 where
 abbrev pub entry_of : Item → Entry
 entry_of item = record { datagram = item.datagram; row = item.row; moment = item.moment; key = item.key; counts = item.counts }
 
-abbrev pub entry_at : Job → PluginConfig → ℕ → ℕ → ℕ → FlowRecord → Entry
-entry_at job plugin datagram moment row flow = record {
+abbrev pub entry_at : Job → Course → PluginConfig → ℕ → ℕ → ℕ → FlowRecord → Entry
+entry_at job course plugin datagram moment row flow = record {
   datagram = datagram;
   row = row;
   moment = moment;
-  key = key_in job plugin (window_start plugin.refresh moment) flow;
+  key = key_in job course plugin datagram (window_start plugin.refresh moment) flow;
   counts = flow.counts;
 }
 
 -- the entries of records from this place on
-abbrev pub entries_from : Job → PluginConfig → ℕ → ℕ → ℕ → List FlowRecord → List Entry
-entries_from job plugin datagram moment row [] = []
-entries_from job plugin datagram moment row (flow ∷ flows) = entry_at job plugin datagram moment row flow ∷ entries_from job plugin datagram moment (row + 1) flows
+abbrev pub entries_from : Job → Course → PluginConfig → ℕ → ℕ → ℕ → List FlowRecord → List Entry
+entries_from job course plugin datagram moment row [] = []
+entries_from job course plugin datagram moment row (flow ∷ flows) =
+    entry_at job course plugin datagram moment row flow ∷ entries_from job course plugin datagram moment (row + 1) flows
 
 -- the entries of a datagram's records; the first datagram has the number 1
-abbrev pub entries_in : Job → PluginConfig → List Datagram → Datagram → List Entry
-entries_in job plugin earlier d = entries_from job plugin (length earlier + 1) d.moment 1 (records_in job earlier d)
+abbrev pub entries_in : Job → Course → PluginConfig → List Datagram → Datagram → List Entry
+entries_in job course plugin earlier d = entries_from job course plugin (length earlier + 1) d.moment 1 (records_in job earlier d)
 
 -- the entries of all datagrams, within the limit of records
-abbrev pub due : Job → Most → PluginConfig → List Datagram → List Entry
-due job most plugin flows = take most.records (over_all (entries_in job plugin) flows)
+abbrev pub due : Job → Most → Course → PluginConfig → List Datagram → List Entry
+due job most course plugin flows = take most.records (over_all (entries_in job course plugin) flows)
+
+-- ---- what the rings refused
+
+abbrev pub is_lost : Course → PluginConfig → Entry → Bool
+is_lost course plugin entry = course.is_dropped plugin.name entry.datagram entry.row
+
+-- the entries that a plugin took, of those that it is owed
+abbrev pub taken : Course → PluginConfig → List Entry → List Entry
+taken course plugin entries = filter (λ entry. not (is_lost course plugin entry)) entries
+
+-- those that its ring refused
+abbrev pub lost : Course → PluginConfig → List Entry → List Entry
+lost course plugin entries = filter (is_lost course plugin) entries

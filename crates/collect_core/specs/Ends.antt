@@ -16,7 +16,9 @@ use Rattle.plugin_cache.specs.Slices.{IsPurgeOf, OneForEach, Slice, Timed, rows_
 use Rattle.plugin_cache.specs.Sums.{sums_of}
 use Rattle.plugin_work.specs.Output.{limit_of, refresh_of, texts_of, totals_of}
 use Rattle.plugin_work.specs.Plugins.{if_whole}
-use Rattle.plugin_work.specs.Sinks.{IsWritten, SinkState}
+use Rattle.plugin_work.specs.Sinks.{IsWritten}
+use Rattle.plugin_work.specs.declared.plugin.PluginEnd.{PluginEnd}
+use Rattle.outside_io.specs.States.{SinkState}
 use Rattle.collect_core.specs.declared.job.Job.{Job}
 use Rattle.collect_core.specs.Most.{Most}
 use Rattle.collect_core.specs.Due.{Entry}
@@ -56,6 +58,10 @@ pub record PluginEnding : Type 0 where
   pub sink : SinkState
   pub end : OutEnd
   pub purged : Counts
+
+-- how a plugin ended whose sink tells this
+abbrev pub ending_of : {W : Type 0} → (W → SinkState) → PluginEnd W → PluginEnding
+ending_of state end = record { sink = state end.out; end = end.end; purged = end.purged }
 
 -- A plugin was given these entries and then the end, and its sink was `start` before them: the texts of the purges of its slices
 -- are written, and over the rows of all purges each key has the sums that it has over the entries.

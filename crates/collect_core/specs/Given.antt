@@ -3,7 +3,7 @@ use Rattle.std.specs.Prelude.{◌≡◌, ⊤, List, [], ◌∷◌, map}
 use Rattle.acct_types.specs.declared.item.Item.{Item}
 use Rattle.config_keys.specs.declared.plugin.PluginConfig.{PluginConfig}
 use Rattle.plugin_work.specs.Plugins.{HasTaken, PluginState}
-use Rattle.plugin_work.specs.Sinks.{SinkState}
+use Rattle.outside_io.specs.States.{SinkState}
 use Rattle.collect_core.specs.Due.{Entry, entry_of}
 
 -- a plugin took the items of these entries, and its sink was `start` before them

@@ -1,9 +1,11 @@
 pub mod Audit
 pub mod Due
+pub mod Course
 pub mod Ends
 pub mod Flows
 pub mod Given
 pub mod Job
+pub mod Lawful
 pub mod Most
 pub mod Run
 pub mod Running

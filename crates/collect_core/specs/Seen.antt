@@ -7,7 +7,7 @@ use Rattle.flow_decode.specs.History.{Knows}
 use Rattle.out_text.specs.Events.{events_text}
 use Rattle.collect_core.specs.declared.collector.Core.{Core}
 use Rattle.collect_core.specs.declared.job.Job.{Job}
-use Rattle.collect_core.specs.Audit.{events_in, refusals_in}
+use Rattle.collect_core.specs.Audit.{told_in, refusals_in}
 use Rattle.collect_core.specs.Due.{over_all, records_in}
 use Rattle.collect_core.specs.Job.{renormalises}
 
@@ -23,4 +23,4 @@ pub record HasSeen (job : Job) (flows : List Datagram) (collector : Core) : Type
 pub record IsFed (job : Job) (flows : List Datagram) (d : Datagram) (collector : Core) (rows : List FlowRecord) (text_before text_after : List ℕ) : Type 0 where
   pub seen : HasSeen job (flows ++ d ∷ []) collector
   pub rows_are : rows ≡ records_in job (reverse flows) d
-  pub lines : text_after ≡ text_before ++ events_text (events_in job (reverse flows) d)
+  pub lines : text_after ≡ text_before ++ events_text (told_in job (reverse flows) d)

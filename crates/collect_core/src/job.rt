@@ -4,13 +4,14 @@ ghost use Rattle.collect_core.specs.Job.{as_of, collects, renormalises};
 
 use acct_types::AsFrom;
 use config_keys::{Config, Tool};
-use pretag_map::{SamplingMap, TagMap};
+use pretag_map::{AgentMap, SamplingMap, TagMap};
 
 /// What a run is to do: what a configuration says, and what its maps say.
 #[derive(Drop)]
 pub struct Job {
     pub config: Config,
     pub tags: TagMap,
+    pub agents: AgentMap,
     pub samplings: SamplingMap,
 }
 

@@ -3,6 +3,7 @@
 
 mod collector;
 mod job;
+mod laws;
 mod limits;
 mod log;
 mod plugins;
@@ -13,5 +14,6 @@ mod running;
 mod tests;
 
 pub use job::{Job, collects};
+pub use laws::{drops_conserve, runs_without_routes_are_lawful};
 pub use limits::Limits;
 pub use run::{RunEnd, run_alone};

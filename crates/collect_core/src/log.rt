@@ -1,7 +1,8 @@
 //! The audit of a run, as it is written.
 
 ghost use Rattle.std.specs.Prelude.{◌≡◌, ◌++◌, [], List as Sequence, ℕ};
-ghost use Rattle.plugin_work.specs.Sinks.{IsWritten, SinkState, state_of};
+ghost use Rattle.plugin_work.specs.Sinks.{IsWritten};
+ghost use Rattle.outside_io.specs.States.{SinkState};
 
 use acct_types::Octets;
 use outside_io::{IoFault, OutEnd, Sink, write_all};
@@ -16,8 +17,8 @@ pub struct Log {
 
 // Writes a text behind those that are written.
 fn write_text<A: Sink>(audit: &mut A, text: &[u8]) -> OutEnd
-    ensures { (start : SinkState) (before : Sequence ℕ) → IsWritten before OutEnd.Whole start (state_of A.held A.faults audit.old)
-        → IsWritten (before ++ text.now) result start (state_of A.held A.faults audit.new) }
+    ensures { (start : SinkState) (before : Sequence ℕ) → IsWritten before OutEnd.Whole start (A.state audit.old)
+        → IsWritten (before ++ text.now) result start (A.state audit.new) }
 {
     match write_all(audit, text) {
         Ok(()) => OutEnd::Whole,
@@ -39,8 +40,8 @@ impl Log {
 
     /// Writes the lines. Once a write failed, or memory ran out, no line is written any more.
     pub fn write<A: Sink>(&mut self, audit: &mut A)
-        ensures written { (start : SinkState) (text : Sequence ℕ) → IsWritten text self.old.end start (state_of A.held A.faults audit.old)
-            → IsWritten (text ++ self.old.text) self.new.end start (state_of A.held A.faults audit.new) }
+        ensures written { (start : SinkState) (text : Sequence ℕ) → IsWritten text self.old.end start (A.state audit.old)
+            → IsWritten (text ++ self.old.text) self.new.end start (A.state audit.new) }
         ensures text { self.new.text ≡ [] }
     {
         if let OutEnd::Whole = self.end {

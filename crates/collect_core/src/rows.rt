@@ -3,9 +3,10 @@
 ghost use Rattle.std.specs.Prelude.{◌≡◌, ◌≤◌, ◌<◌, ◌+◌, ◌-◌, ◌^◌, ◌++◌, ◌∷◌, [], ℕ, List as Sequence, All, length, option_map, option_and_then, true, IfOk, IfSome, OnOk};
 ghost use Rattle.acct_types.specs.Counts.{IsBelow};
 ghost use Rattle.config_keys.specs.declared.plugin.PluginConfig.{PluginConfig};
-ghost use Rattle.plugin_work.specs.Sinks.{SinkState};
+ghost use Rattle.outside_io.specs.States.{SinkState};
 ghost use Rattle.pretag_map.specs.Labels.{is_label};
 ghost use Rattle.pretag_map.specs.TagRules.{label_at};
+ghost use Rattle.collect_core.specs.Course.{unrouted};
 ghost use Rattle.collect_core.specs.Due.{Entry, entries_from, entry_at, entry_of, tags_in, window_start};
 ghost use Rattle.collect_core.specs.Given.{AreGiven, IsGiven};
 
@@ -35,7 +36,7 @@ fn window_start(plugin: &PluginConfig, moment: u64) -> u64
 }
 
 fn tags_in(job: &Job, flow: &FlowRecord) -> Tags
-    ensures { result ≡ tags_in job.now flow.now }
+    ensures { (datagram : ℕ) → result ≡ tags_in job.now unrouted datagram flow.now }
 {
     job.tags.tag(&facts(flow, job.as_from(), None, None))
 }
@@ -58,8 +59,8 @@ fn item_of(
     tags: &Tags,
 ) -> Result<Item, NoMemory>
     requires small { IsBelow (2 ^ 96) flow.now.counts }
-    requires tags { tags.now ≡ tags_in job.now flow.now }
-    ensures { IfOk result (λ item. entry_of item ≡ entry_at job.now plugin.now standing.datagram standing.moment standing.row flow.now) }
+    requires tags { tags.now ≡ tags_in job.now unrouted standing.datagram flow.now }
+    ensures { IfOk result (λ item. entry_of item ≡ entry_at job.now unrouted plugin.now standing.datagram standing.moment standing.row flow.now) }
 {
     let key = key_of(
         alloc,
@@ -92,10 +93,10 @@ fn give_one<W: Sink>(
     tags: &Tags,
 ) -> Result<(), NoMemory>
     requires small { IsBelow (2 ^ 96) flow.now.counts }
-    requires tags { tags.now ≡ tags_in job.now flow.now }
+    requires tags { tags.now ≡ tags_in job.now unrouted standing.datagram flow.now }
     requires room { plugin.old.taken < 2 ^ 32 - 1 }
     ensures given { (start : SinkState) (entries : Sequence Entry) → IsGiven config.now start entries plugin.old
-        → OnOk result (IsGiven config.now start (entries ++ entry_at job.now config.now standing.datagram standing.moment standing.row flow.now ∷ []) plugin.new) }
+        → OnOk result (IsGiven config.now start (entries ++ entry_at job.now unrouted config.now standing.datagram standing.moment standing.row flow.now ∷ []) plugin.new) }
     ensures taken { OnOk result (plugin.new.taken ≡ plugin.old.taken + 1) }
 {
     plugin.take_item(item_of(alloc, job, config, standing, flow, tags)?);
@@ -113,7 +114,7 @@ fn give_row<W: Sink>(
     requires small { IsBelow (2 ^ 96) flow.now.counts }
     requires room { All (λ plugin. plugin.taken < 2 ^ 32 - 1) plugins.old }
     ensures given { (starts : Sequence SinkState) (entries : PluginConfig → Sequence Entry) → AreGiven job.now.config.plugins starts entries plugins.old
-        → OnOk result (AreGiven job.now.config.plugins starts (λ plugin. entries plugin ++ entry_at job.now plugin standing.datagram standing.moment standing.row flow.now ∷ []) plugins.new) }
+        → OnOk result (AreGiven job.now.config.plugins starts (λ plugin. entries plugin ++ entry_at job.now unrouted plugin standing.datagram standing.moment standing.row flow.now ∷ []) plugins.new) }
     ensures room { (more : ℕ) → All (λ plugin. plugin.taken + more < 2 ^ 32 - 1) plugins.old → OnOk result (All (λ plugin. plugin.taken + more ≤ 2 ^ 32 - 1) plugins.new) }
 {
     let tags = tags_in(job, flow);
@@ -139,7 +140,7 @@ pub fn give_rows<W: Sink>(
     requires small { All (λ flow. IsBelow (2 ^ 96) flow.counts) rows.now }
     requires room { All (λ plugin. plugin.taken + length rows.now ≤ 2 ^ 32 - 1) plugins.old }
     ensures given { (starts : Sequence SinkState) (entries : PluginConfig → Sequence Entry) → AreGiven job.now.config.plugins starts entries plugins.old
-        → OnOk result (AreGiven job.now.config.plugins starts (λ plugin. entries plugin ++ entries_from job.now plugin datagram moment 1 rows.now) plugins.new) }
+        → OnOk result (AreGiven job.now.config.plugins starts (λ plugin. entries plugin ++ entries_from job.now unrouted plugin datagram moment 1 rows.now) plugins.new) }
 {
     // Only the room of a plugin bounds how many records there are.
     if plugins.is_empty() {

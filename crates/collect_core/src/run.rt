@@ -1,19 +1,20 @@
 //! A run on one thread.
 
-ghost use Rattle.std.specs.Prelude.{◌≡◌, ◌≢◌, false, true, All, IfOk, length, map, List as Sequence};
+ghost use Rattle.std.specs.Prelude.{◌≡◌, ◌≢◌, ◌⊎◌, false, true, All, Any, IfOk, MatchBool, length, map, List as Sequence};
 ghost use Rattle.acct_types.specs.declared.datagram.Datagram.{Datagram};
 ghost use Rattle.outside_io.specs.Calls.{Calls};
-ghost use Rattle.plugin_work.specs.Sinks.{SinkState, state_of};
-ghost use Rattle.collect_core.specs.Ends.{Answer};
+ghost use Rattle.outside_io.specs.States.{SinkState};
+ghost use Rattle.collect_core.specs.Course.{unrouted};
+ghost use Rattle.collect_core.specs.Ends.{Answer, ending_of};
 ghost use Rattle.collect_core.specs.Job.{collects};
 ghost use Rattle.collect_core.specs.Most.{most_in};
-ghost use Rattle.collect_core.specs.Run.{IsRun, input_state};
+ghost use Rattle.collect_core.specs.Run.{IsRun};
 ghost use Rattle.collect_core.specs.Running.{HasEnded, HasRun};
 
 use crate::plugins::finish_plugins;
 use crate::running::{Running, begin, take_all};
 use crate::{Job, Limits};
-use acct_types::{List, NoMemory};
+use acct_types::{Hashing, List, NoMemory};
 use out_text::{Event, Totals, event_text};
 use outside_io::{Datagrams, OutEnd, Sessions, SideEnd, Sink};
 use plugin_work::PluginEnd;
@@ -33,7 +34,8 @@ pub struct RunEnd<W: Sink> {
 
 // What is told where memory ran out.
 fn without_memory<W: Sink>(alloc: Global) -> RunEnd<W>
-    ensures { result.memory ≡ true }
+    ensures memory { result.memory ≡ true }
+    ensures audit { result.audit ≡ OutEnd.Memory }
 {
     RunEnd {
         flow: SideEnd::Ended,
@@ -54,7 +56,7 @@ fn without_memory<W: Sink>(alloc: Global) -> RunEnd<W>
 
 // Whether memory ran out for an output.
 fn is_memory(end: OutEnd) -> bool
-    ensures { result ≡ false → end ≢ OutEnd.Memory }
+    ensures { MatchBool result (end ≡ OutEnd.Memory) (end ≢ OutEnd.Memory) }
 {
     match end {
         OutEnd::Memory => true,
@@ -64,7 +66,7 @@ fn is_memory(end: OutEnd) -> bool
 
 // Whether memory ran out for a plugin.
 fn wants_memory<W: Sink>(ends: &[PluginEnd<W>]) -> bool
-    ensures { result ≡ false → All (λ end. end.end ≢ OutEnd.Memory) ends.now }
+    ensures { MatchBool result (Any (λ end. end.end ≡ OutEnd.Memory) ends.now) (All (λ end. end.end ≢ OutEnd.Memory) ends.now) }
 {
     for end in ends {
         if is_memory(end.end) {
@@ -76,10 +78,13 @@ fn wants_memory<W: Sink>(ends: &[PluginEnd<W>]) -> bool
 
 // Whether memory ran out for the audit or for a plugin.
 fn ran_out<W: Sink>(audit: OutEnd, ends: &[PluginEnd<W>]) -> bool
-    ensures audit { result ≡ false → audit ≢ OutEnd.Memory }
-    ensures plugins { result ≡ false → All (λ end. end.end ≢ OutEnd.Memory) ends.now }
+    ensures { MatchBool result ((audit ≡ OutEnd.Memory) ⊎ Any (λ end. end.end ≡ OutEnd.Memory) ends.now)
+        ((audit ≢ OutEnd.Memory) × All (λ end. end.end ≢ OutEnd.Memory) ends.now) }
 {
-    is_memory(audit) || wants_memory(ends)
+    if is_memory(audit) {
+        return true;
+    }
+    wants_memory(ends)
 }
 
 // Brings the outputs to their ends, the audit with what was counted.
@@ -90,10 +95,11 @@ fn finish<W: Sink, A: Sink>(
     audit: &mut A,
 ) -> Result<RunEnd<W>, NoMemory>
     ensures outputs { (job : _) (most : _) (starts : Sequence SinkState) (start : SinkState) (flows : Sequence Datagram)
-        → HasRun job most starts start flows running.collector running.plugins.items running.log (state_of A.held A.faults audit.old)
+        → HasRun job most starts start flows running.collector running.plugins.items running.log (A.state audit.old)
         → IfOk result (λ end. end.memory ≡ false → HasEnded job most starts start flows
-        (map (λ plugin. record { sink = state_of W.held W.faults plugin.out; end = plugin.end; purged = plugin.purged }) end.plugins)
-        end.audit (state_of A.held A.faults audit.new) end.totals) }
+        (map (ending_of W.state) end.plugins)
+        end.audit (A.state audit.new) end.totals) }
+    ensures memory { IfOk result (λ end. end.memory ≡ true → (end.audit ≡ OutEnd.Memory) ⊎ Any (λ plugin. plugin.end ≡ OutEnd.Memory) end.plugins) }
     ensures flow { IfOk result (λ end. end.flow ≡ flow) }
     ensures route { IfOk result (λ end. end.route ≡ SideEnd.Ended) }
 {
@@ -120,6 +126,7 @@ fn finish<W: Sink, A: Sink>(
 // The run, unless memory runs out before its outputs come to their ends.
 fn run_flows<F: Datagrams, W: Sink, A: Sink>(
     alloc: Global,
+    hashing: Hashing,
     job: &Job,
     flows: &mut F,
     outs: List<W>,
@@ -128,19 +135,19 @@ fn run_flows<F: Datagrams, W: Sink, A: Sink>(
 ) -> Result<RunEnd<W>, NoMemory>
     requires collects { collects job.now.config.tool ≡ true }
     requires one_each { length outs ≡ length job.now.config.plugins }
-    ensures run { IfOk result (λ end. end.memory ≡ false → IsRun job.now (most_in limits.now) F.call flows.old flows.new
-        (input_state F.left F.ending F.handed F.faults F.captured flows.old) (input_state F.left F.ending F.handed F.faults F.captured flows.new)
-        (map (state_of W.held W.faults) outs) (state_of A.held A.faults audit.old) (state_of A.held A.faults audit.new)
+    ensures run { IfOk result (λ end. end.memory ≡ false → IsRun job.now (most_in limits.now) unrouted F.call F.state flows.old flows.new
+        (map W.state outs) (A.state audit.old) (A.state audit.new)
         (record {
           flow = end.flow;
           route = end.route;
-          plugins = map (λ plugin. record { sink = state_of W.held W.faults plugin.out; end = plugin.end; purged = plugin.purged }) end.plugins;
+          plugins = map (ending_of W.state) end.plugins;
           audit = end.audit;
           totals = end.totals;
         })) }
+    ensures memory { IfOk result (λ end. end.memory ≡ true → (end.audit ≡ OutEnd.Memory) ⊎ Any (λ plugin. plugin.end ≡ OutEnd.Memory) end.plugins) }
     ensures calls { (answers : Sequence Answer) × Calls F.call flows.old flows.new answers }
 {
-    let mut running = begin(alloc, job, outs, limits)?;
+    let mut running = begin(alloc, hashing, job, outs, limits)?;
     let flow = take_all(alloc, job, flows, &mut running, audit, limits)?;
     finish(alloc, running, flow, audit)
 }
@@ -149,6 +156,7 @@ fn run_flows<F: Datagrams, W: Sink, A: Sink>(
 /// and always returns. No call is made on the routes: there are none so far.
 pub fn run_alone<F: Datagrams, R: Sessions, W: Sink, A: Sink>(
     alloc: Global,
+    hashing: Hashing,
     job: &Job,
     flows: &mut F,
     routes: &mut R,
@@ -160,20 +168,21 @@ pub fn run_alone<F: Datagrams, R: Sessions, W: Sink, A: Sink>(
     requires no_bgp { job.now.config.bgp_daemon ≡ false }
     requires no_bmp { job.now.config.bmp_daemon ≡ false }
     requires one_each { length outs ≡ length job.now.config.plugins }
-    ensures run { result.memory ≡ false → IsRun job.now (most_in limits.now) F.call flows.old flows.new
-        (input_state F.left F.ending F.handed F.faults F.captured flows.old) (input_state F.left F.ending F.handed F.faults F.captured flows.new)
-        (map (state_of W.held W.faults) outs) (state_of A.held A.faults audit.old) (state_of A.held A.faults audit.new)
+    ensures run { result.memory ≡ false → IsRun job.now (most_in limits.now) unrouted F.call F.state flows.old flows.new
+        (map W.state outs) (A.state audit.old) (A.state audit.new)
         (record {
           flow = result.flow;
           route = result.route;
-          plugins = map (λ plugin. record { sink = state_of W.held W.faults plugin.out; end = plugin.end; purged = plugin.purged }) result.plugins;
+          plugins = map (ending_of W.state) result.plugins;
           audit = result.audit;
           totals = result.totals;
         }) }
+    // Memory is said to have run out only where it did for an output.
+    ensures memory { result.memory ≡ true → (result.audit ≡ OutEnd.Memory) ⊎ Any (λ plugin. plugin.end ≡ OutEnd.Memory) result.plugins }
     ensures calls { (answers : Sequence Answer) × Calls F.call flows.old flows.new answers }
     ensures routes { routes.new ≡ routes.old }
 {
-    match run_flows(alloc, job, flows, outs, audit, limits) {
+    match run_flows(alloc, hashing, job, flows, outs, audit, limits) {
         Ok(end) => end,
         Err(NoMemory) => without_memory(alloc),
     }

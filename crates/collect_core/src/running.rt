@@ -1,16 +1,15 @@
 //! A run between its start and its end.
 
-ghost use Rattle.std.specs.Prelude.{◌≡◌, ◌≤◌, ◌<◌, ◌+◌, ◌^◌, ◌-◌, ◌++◌, ◌∷◌, ◌↔◌, [], List as Sequence, All, length, map, IfOk, IfSome, IsTrue, None, Err, Ok, OnOk, true};
+ghost use Rattle.std.specs.Prelude.{◌≡◌, ◌≤◌, ◌<◌, ◌+◌, ◌^◌, ◌-◌, ◌++◌, ◌∷◌, ◌↔◌, [], List as Sequence, All, length, map, IfOk, IfSome, IsTrue, None, Err, Ok, OnErr, OnOk, true};
 ghost use Rattle.acct_types.specs.declared.datagram.Datagram.{Datagram};
 ghost use Rattle.outside_io.specs.Calls.{Calls, EndWith, handed_out};
 ghost use Rattle.plugin_work.specs.Plugins.{PluginState};
-ghost use Rattle.plugin_work.specs.Sinks.{SinkState, state_of};
+ghost use Rattle.outside_io.specs.States.{SinkState};
 ghost use Rattle.collect_core.specs.Due.{records_of};
 ghost use Rattle.collect_core.specs.Ends.{Answer, EndsFlows};
 ghost use Rattle.collect_core.specs.Flows.{AreWithin, event_octets};
 ghost use Rattle.collect_core.specs.Job.{collects};
 ghost use Rattle.collect_core.specs.Most.{most_in};
-ghost use Rattle.collect_core.specs.Run.{input_state};
 ghost use Rattle.collect_core.specs.Running.{GoesOn, HasRoom, HasRun, HasTakenAll, Stops};
 
 use crate::collector::Core;
@@ -18,8 +17,11 @@ use crate::log::Log;
 use crate::plugins::start_plugins;
 use crate::rows::give_rows;
 use crate::{Job, Limits};
-use acct_types::{Addr, Datagram, List, NoMemory};
-use outside_io::{Datagrams, InputFault, SideEnd, Sink, Which, adjoining_spans_join, calls_of_datagrams_join, nothing_is_handed_out_in_no_time};
+use acct_types::{Addr, Datagram, Hashing, List, NoMemory};
+use outside_io::{
+    Datagrams, InputFault, SideEnd, Sink, Which, adjoining_spans_join, calls_of_datagrams_join,
+    nothing_is_handed_out_in_no_time,
+};
 use plugin_work::Plugin;
 use std::alloc::Global;
 
@@ -35,16 +37,17 @@ pub struct Running<W: Sink> {
 /// What is at work before the first datagram, with a plugin over each sink. After NoMemory the sinks are gone.
 pub fn begin<W: Sink>(
     alloc: Global,
+    hashing: Hashing,
     job: &Job,
     outs: List<W>,
     limits: &Limits,
 ) -> Result<Running<W>, NoMemory>
     requires collects { collects job.now.config.tool ≡ true }
     requires one_each { length outs ≡ length job.now.config.plugins }
-    ensures { (audit : SinkState) → IfOk result (λ running. GoesOn job.now (most_in limits.now) (map (state_of W.held W.faults) outs) audit []
+    ensures { (audit : SinkState) → IfOk result (λ running. GoesOn job.now (most_in limits.now) (map W.state outs) audit []
         running.collector running.plugins.items running.log audit running.left) }
 {
-    let plugins = start_plugins(alloc, job.config.plugins.as_slice(), outs)?;
+    let plugins = start_plugins(alloc, hashing, job.config.plugins.as_slice(), outs)?;
     Ok(Running {
         collector: Core::new(alloc, job),
         plugins,
@@ -77,11 +80,11 @@ fn take_datagram<W: Sink, A: Sink>(
     requires fits { length datagram.now.octets ≤ 65535 }
     requires room { HasRoom (most_in limits.now) running.old.collector running.old.plugins.items }
     ensures run { (starts : Sequence SinkState) (start : SinkState) (flows : Sequence Datagram)
-        → HasRun job.now (most_in limits.now) starts start flows running.old.collector running.old.plugins.items running.old.log (state_of A.held A.faults audit.old)
+        → HasRun job.now (most_in limits.now) starts start flows running.old.collector running.old.plugins.items running.old.log (A.state audit.old)
         → OnOk result (HasRun job.now (most_in limits.now) starts start (flows ++ datagram.now ∷ []) running.new.collector running.new.plugins.items running.new.log
-        (state_of A.held A.faults audit.new)) }
+        (A.state audit.new)) }
     ensures passes { (starts : Sequence SinkState) (start : SinkState) (flows : Sequence Datagram)
-        → HasRun job.now (most_in limits.now) starts start flows running.old.collector running.old.plugins.items running.old.log (state_of A.held A.faults audit.old)
+        → HasRun job.now (most_in limits.now) starts start flows running.old.collector running.old.plugins.items running.old.log (A.state audit.old)
         → length (records_of job.now flows) ≤ limits.now.records
         → IfOk result (λ passes. IsTrue passes ↔ limits.now.records < length (records_of job.now (flows ++ datagram.now ∷ []))) }
     ensures left { running.new.left ≡ running.old.left }
@@ -116,14 +119,14 @@ fn take_next<W: Sink, A: Sink>(
     requires fits { length datagram.now.octets ≤ 65535 }
     requires room { HasRoom (most_in limits.now) running.old.collector running.old.plugins.items }
     ensures next { (starts : Sequence SinkState) (start : SinkState) (handed : Sequence Datagram)
-        → GoesOn job.now (most_in limits.now) starts start handed running.old.collector running.old.plugins.items running.old.log (state_of A.held A.faults audit.old) running.old.left
+        → GoesOn job.now (most_in limits.now) starts start handed running.old.collector running.old.plugins.items running.old.log (A.state audit.old) running.old.left
         → result ≡ Ok None
         → GoesOn job.now (most_in limits.now) starts start (handed ++ datagram.now ∷ []) running.new.collector running.new.plugins.items running.new.log
-        (state_of A.held A.faults audit.new) running.new.left }
+        (A.state audit.new) running.new.left }
     ensures stops { (starts : Sequence SinkState) (start : SinkState) (handed : Sequence Datagram)
-        → GoesOn job.now (most_in limits.now) starts start handed running.old.collector running.old.plugins.items running.old.log (state_of A.held A.faults audit.old) running.old.left
+        → GoesOn job.now (most_in limits.now) starts start handed running.old.collector running.old.plugins.items running.old.log (A.state audit.old) running.old.left
         → IfOk result (λ passed. IfSome passed (λ which. Stops job.now (most_in limits.now) starts start (handed ++ datagram.now ∷ []) which
-        running.new.collector running.new.plugins.items running.new.log (state_of A.held A.faults audit.new))) }
+        running.new.collector running.new.plugins.items running.new.log (A.state audit.new))) }
     ensures left { result ≡ Ok None → running.new.left < running.old.left }
 {
     let octets = event_octets(datagram);
@@ -137,7 +140,8 @@ fn take_next<W: Sink, A: Sink>(
 
 // How the flow side ends where the input answers this fault.
 fn ended_by(fault: InputFault) -> Result<SideEnd, NoMemory>
-    ensures { (job : _) (most : _) (answers : Sequence Answer) → EndWith answers (Err fault) → AreWithin job most (handed_out answers) → IfOk result (EndsFlows job most answers) }
+    ensures ends { (job : _) (most : _) (answers : Sequence Answer) → EndWith answers (Err fault) → AreWithin job most (handed_out answers) → IfOk result (EndsFlows job most answers) }
+    ensures memory { OnErr result (fault ≡ InputFault.NoMemory) }
 {
     match fault {
         InputFault::NoMemory => Err(NoMemory),
@@ -155,14 +159,14 @@ pub fn take_all<F: Datagrams, W: Sink, A: Sink>(
     audit: &mut A,
     limits: &Limits,
 ) -> Result<SideEnd, NoMemory>
-    requires begun { (starts : Sequence SinkState) × GoesOn job.now (most_in limits.now) starts (state_of A.held A.faults audit.old) []
-        running.old.collector running.old.plugins.items running.old.log (state_of A.held A.faults audit.old) running.old.left }
+    requires begun { (starts : Sequence SinkState) × GoesOn job.now (most_in limits.now) starts (A.state audit.old) []
+        running.old.collector running.old.plugins.items running.old.log (A.state audit.old) running.old.left }
     ensures calls { (answers : Sequence Answer) × Calls F.call flows.old flows.new answers }
-    ensures run { (starts : Sequence SinkState) → GoesOn job.now (most_in limits.now) starts (state_of A.held A.faults audit.old) []
-        running.old.collector running.old.plugins.items running.old.log (state_of A.held A.faults audit.old) running.old.left
+    ensures run { (starts : Sequence SinkState) → GoesOn job.now (most_in limits.now) starts (A.state audit.old) []
+        running.old.collector running.old.plugins.items running.old.log (A.state audit.old) running.old.left
         → IfOk result (HasTakenAll job.now (most_in limits.now) F.call flows.old flows.new
-        (input_state F.left F.ending F.handed F.faults F.captured flows.old) (input_state F.left F.ending F.handed F.faults F.captured flows.new)
-        starts (state_of A.held A.faults audit.old) running.new.collector running.new.plugins.items running.new.log (state_of A.held A.faults audit.new)) }
+        (F.state flows.old) (F.state flows.new)
+        starts (A.state audit.old) running.new.collector running.new.plugins.items running.new.log (A.state audit.new)) }
 {
     nothing_is_handed_out_in_no_time::<Datagram>();
     adjoining_spans_join::<Datagram>();

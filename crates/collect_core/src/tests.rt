@@ -5,11 +5,14 @@ ghost use Rattle.collect_core.specs.Job.{collects};
 
 use crate::job::collects;
 use crate::{Job, Limits, RunEnd, run_alone};
-use acct_types::{Addr, Counts, Datagram, List, NoMemory, Octets};
+use acct_types::{Addr, Counts, Datagram, Hashing, List, NoMemory, Octets};
 use config_keys::{Config, Tool, read_config};
 use out_text::Totals;
-use outside_io::{Datagrams, InputFault, IoFault, MemoryFlows, MemorySink, NoRoutes, OutEnd, SideEnd, Sink, Which, can_come};
-use pretag_map::{SamplingMap, TagMap};
+use outside_io::{
+    Datagrams, InputFault, IoFault, MemoryFlows, MemorySink, NoRoutes, OutEnd, SideEnd, Sink,
+    Which, can_come,
+};
+use pretag_map::{AgentMap, SamplingMap, TagMap};
 use std::alloc::Global;
 use std::sync::Arc;
 use std::sync::atomic::{AtomicU64, Ordering};
@@ -138,6 +141,7 @@ fn job(alloc: Global, config: &[u8]) -> Result<Job, Fail> {
     Ok(Job {
         config: read_config(alloc, Tool::Nfacctd, config)?,
         tags: TagMap::empty(alloc),
+        agents: AgentMap::empty(alloc),
         samplings: SamplingMap::empty(alloc),
     })
 }
@@ -175,6 +179,7 @@ fn run(alloc: Global, given: &Given) -> Result<Left, Fail> {
     let most = limits(given.most);
     let end = run_alone(
         alloc,
+        Hashing::fixed(),
         &job,
         &mut flows,
         &mut NoRoutes::new(alloc),
@@ -706,9 +711,7 @@ struct Counter {
 }
 
 impl Sink for Counter {
-    ghost held = { λ _. None };
-
-    ghost faults = { λ _. 0 };
+    ghost state = { λ _. record { held = None; faults = 0 } };
 
     fn write(&mut self, piece: &[u8]) -> Result<usize, IoFault> {
         self.written.fetch_add(piece.len() as u64, Ordering::SeqCst);
@@ -722,24 +725,16 @@ struct Watcher {
     alloc: Global,
     written: Arc<AtomicU64>,
     calls: u64,
+    ended: bool,
 }
 
 impl Datagrams for Watcher {
-    ghost left = { λ _. None };
-
-    ghost ending = { λ _. None };
-
-    ghost handed = { λ _. None };
-
-    ghost moment = { λ _. 0 };
-
-    ghost faults = { λ _. 0 };
-
-    ghost captured = { λ _. false };
+    ghost state = { λ watcher. record { left = None; ending = None; handed = None; ended = watcher.ended; moment = 0; faults = 0; captured = false } };
 
     fn next(&mut self) -> Result<Option<Datagram>, InputFault> {
         let calls = self.calls;
         if calls >= 3 || self.written.load(Ordering::SeqCst) != 16 * calls {
+            self.ended = true;
             return Ok(None);
         }
         self.calls = calls + 1;
@@ -760,6 +755,7 @@ fn lines_are_written_before_the_next_datagram_is_asked_for(rt: HostRuntime) -> R
         alloc,
         written: Arc::try_clone(&written)?,
         calls: 0,
+        ended: false,
     };
     let mut audit = Counter {
         written: Arc::try_clone(&written)?,
@@ -771,6 +767,7 @@ fn lines_are_written_before_the_next_datagram_is_asked_for(rt: HostRuntime) -> R
     }
     let end = run_alone(
         alloc,
+        Hashing::fixed(),
         &job,
         &mut flows,
         &mut NoRoutes::new(alloc),

@@ -1,6 +1,7 @@
 use Rattle.std.proofs.Common.{◌≡◌, ◌∙◌, ◌<◌, ◌≤◌, ◌∷◌, ◌++◌, ◌≢◌, [], rules, set, ℕ, List, add-one, arith, get_or, get_or-set_other, inl, inr, length, subst, sym}
 use Rattle.std.proofs.lemmas.List.{set-get_or}
 use Rattle.config_keys.specs.declared.plugin.PluginConfig.{PluginConfig}
+use Rattle.collect_core.specs.Course.{unrouted}
 use Rattle.collect_core.specs.Due.{Entry, entry_at}
 use Rattle.collect_core.specs.Given.{AreGiven}
 use Rattle.collect_core.proofs.GivenLemmas.{AreGivenUpTo, all_given, one_given, one_taken}
@@ -9,7 +10,7 @@ use Rattle.collect_core.proofs.rows.give_row.Goals as goal
 pub returns-in_default-clause-given : goal.returns-in_default-clause-given
 returns-in_default-clause-given g c starts entries given =
     let configs = c.args.job.now.config.plugins in
-    let later : PluginConfig → List Entry = λ plugin. entries plugin ++ entry_at c.args.job.now plugin c.args.standing.datagram c.args.standing.moment c.args.standing.row c.args.flow.now ∷ [] in
+    let later : PluginConfig → List Entry = λ plugin. entries plugin ++ entry_at c.args.job.now unrouted plugin c.args.standing.datagram c.args.standing.moment c.args.standing.row c.args.flow.now ∷ [] in
     let few : length c.as_slice-configs.result.now ≤ c.loop-index.index = search rules in
     subst (AreGiven configs starts later) (sym (set-get_or c.loop-index.plugins c.loop-index.index c.index-plugins-index.result))
     (all_given c.loop-index.index configs starts entries later c.loop-index.plugins
@@ -24,7 +25,7 @@ loop-index-preserved g c =
     let there : config ≡ get_or c.as_slice-configs.result.now i config = search rules in
     record {
       given = λ starts entries given.
-          let later : PluginConfig → List Entry = λ plugin. entries plugin ++ entry_at c.args.job.now plugin c.args.standing.datagram c.args.standing.moment c.args.standing.row c.args.flow.now ∷ [] in
+          let later : PluginConfig → List Entry = λ plugin. entries plugin ++ entry_at c.args.job.now unrouted plugin c.args.standing.datagram c.args.standing.moment c.args.standing.row c.args.flow.now ∷ [] in
           subst (λ (n : ℕ). AreGivenUpTo n configs starts entries later (set c.loop-index.plugins i c.give_one.new.plugin)) (sym (add-one i))
           (one_given i configs starts entries later c.loop-index.plugins config c.give_one.new.plugin c.index-plugins-index.result
           (subst (λ (plugins : List PluginConfig). i < length plugins) c.as_slice-configs.ensures within) (omega arith)
@@ -38,5 +39,8 @@ loop-index-preserved g c =
 
 pub returns-clause-given : goal.returns-clause-given
 returns-clause-given g c starts entries given =
-    let later : PluginConfig → List Entry = λ plugin. entries plugin ++ entry_at c.args.job.now plugin c.args.standing.datagram c.args.standing.moment c.args.standing.row c.args.flow.now ∷ [] in
+    let later : PluginConfig → List Entry = λ plugin. entries plugin ++ entry_at c.args.job.now unrouted plugin c.args.standing.datagram c.args.standing.moment c.args.standing.row c.args.flow.now ∷ [] in
     all_given c.loop-index.index c.args.job.now.config.plugins starts entries later c.loop-index.plugins (inl (omega arith)) (c.loop-index.invariant.given starts entries given)
+
+pub give_one-requires-clause-tags : goal.give_one-requires-clause-tags
+give_one-requires-clause-tags g c = c.tags_in-tags.ensures c.args.standing.datagram

@@ -1,4 +1,5 @@
 use Rattle.std.proofs.Common.{◌≡◌, ◌-◌, ◌+◌, ◌<◌, ◌≤◌, ◌^◌, ◌++◌, [], rules, arith, append-nil, length, sym, take}
+use Rattle.collect_core.specs.Course.{unrouted}
 use Rattle.collect_core.specs.Due.{entries_from}
 use Rattle.collect_core.proofs.GivenLemmas.{few_rows, none_at_all, row_given, rows_given, same_given}
 use Rattle.collect_core.proofs.rows.give_rows.Goals as goal
@@ -34,7 +35,7 @@ loop-index-preserved g c =
     record {
       given = λ starts entries given.
           row_given job c.args.datagram c.args.moment starts entries rows i _ c.give_row.new.plugins c.loop-index-test.true
-          (c.in_ok-give_row.ensures.given starts (λ plugin. entries plugin ++ entries_from job plugin c.args.datagram c.args.moment 1 (take i rows)) (c.loop-index.invariant.given starts entries given));
+          (c.in_ok-give_row.ensures.given starts (λ plugin. entries plugin ++ entries_from job unrouted plugin c.args.datagram c.args.moment 1 (take i rows)) (c.loop-index.invariant.given starts entries given));
       room = c.in_ok-give_row.ensures.room (length rows - (i + 1)) (λ k d within. omega (arith, c.loop-index.invariant.room k d within, c.loop-index-test.true));
     }
 

@@ -3,12 +3,10 @@ use Rattle.std.proofs.lemmas.Result.{IfOk-weaker}
 use Rattle.acct_types.specs.declared.datagram.Datagram.{Datagram}
 use Rattle.outside_io.specs.Calls.{handed_out}
 use Rattle.outside_io.specs.Inputs.{given}
-use Rattle.plugin_work.specs.Sinks.{state_of}
 use Rattle.collect_core.specs.Ends.{Answer}
 use Rattle.collect_core.specs.Most.{most_in}
-use Rattle.collect_core.specs.Run.{input_state}
 use Rattle.collect_core.specs.Running.{GoesOn, Stops}
-use Rattle.collect_core.proofs.CallLemmas.{Tells, answered_more, ends_by_limit, handed_more, none_answered, still_within, taken_all, taken_to_end}
+use Rattle.collect_core.proofs.CallLemmas.{Tells, answered_more, ends_by_limit, handed_more, none_answered, says_ended, still_within, taken_all, taken_to_end}
 use Rattle.collect_core.proofs.RunLemmas.{has_room}
 use Rattle.collect_core.proofs.running.take_all.Goals as goal
 
@@ -31,12 +29,13 @@ returns-in-Ok-None-clause-run g c = λ starts on.
     let so_far = c.loop-datagram.invariant in
     let now = so_far.goes_on starts on in
     let is : c.next.result ≡ Ok None = cc (c.in-Ok-None.is, c.in-Ok-None.field-0-is) in
-    let tells : Tells (input_state g.F.Datagrams.left g.F.Datagrams.ending g.F.Datagrams.handed g.F.Datagrams.faults g.F.Datagrams.captured c.loop-datagram.flows)
-    (input_state g.F.Datagrams.left g.F.Datagrams.ending g.F.Datagrams.handed g.F.Datagrams.faults g.F.Datagrams.captured c.next.new.self) c.next.result = record {
+    let tells : Tells (g.F.Datagrams.state c.loop-datagram.flows)
+    (g.F.Datagrams.state c.next.new.self) c.next.result = record {
       left = c.next.ensures.left;
       handed = c.next.ensures.handed;
       ends = c.next.ensures.ends;
       ending = c.next.ensures.ending;
+      ended = λ is. says_ended _ _ c.next.result is c.next.ensures.ended;
       cause = c.next.ensures.cause;
       of_capture = c.next.ensures.of_capture;
       captured = c.next.ensures.captured;
@@ -56,12 +55,13 @@ returns-in-Err-clause-run g c = λ starts on.
     let most = most_in c.args.limits.now in
     let so_far = c.loop-datagram.invariant in
     let now = so_far.goes_on starts on in
-    let tells : Tells (input_state g.F.Datagrams.left g.F.Datagrams.ending g.F.Datagrams.handed g.F.Datagrams.faults g.F.Datagrams.captured c.loop-datagram.flows)
-    (input_state g.F.Datagrams.left g.F.Datagrams.ending g.F.Datagrams.handed g.F.Datagrams.faults g.F.Datagrams.captured c.next.new.self) c.next.result = record {
+    let tells : Tells (g.F.Datagrams.state c.loop-datagram.flows)
+    (g.F.Datagrams.state c.next.new.self) c.next.result = record {
       left = c.next.ensures.left;
       handed = c.next.ensures.handed;
       ends = c.next.ensures.ends;
       ending = c.next.ensures.ending;
+      ended = λ is. says_ended _ _ c.next.result is c.next.ensures.ended;
       cause = c.next.ensures.cause;
       of_capture = c.next.ensures.of_capture;
       captured = c.next.ensures.captured;
@@ -69,7 +69,7 @@ returns-in-Err-clause-run g c = λ starts on.
     IfOk-weaker c.ended_by.result _ _
     (λ ended ends. taken_to_end c.adjoining_spans_join.ensures g.F.Datagrams.call c.calls_of_datagrams_join.ensures.one_more c.args.flows.now c.loop-datagram.flows c.next.new.self _ _ _ so_far.answers c.next.result so_far.answered c.next.ensures.call tells (ap given c.in-Err.is)
     job most starts _ _ _ _ _ c.loop-datagram.running.left ended now ends)
-    (c.ended_by.ensures job most (so_far.answers ++ c.next.result ∷ []) (so_far.answers, ap (λ (a : Answer). so_far.answers ++ a ∷ []) c.in-Err.is)
+    (c.ended_by.ensures.ends job most (so_far.answers ++ c.next.result ∷ []) (so_far.answers, ap (λ (a : Answer). so_far.answers ++ a ∷ []) c.in-Err.is)
     (still_within g.F.Datagrams.call c.calls_of_datagrams_join.ensures.one_more job most so_far.answers c.next.result (ap given c.in-Err.is) now.within))
 
 pub take_next-requires-clause-room : goal.take_next-requires-clause-room
@@ -95,19 +95,20 @@ returns-in-Some-clause-run g c = λ starts on.
     let most = most_in c.args.limits.now in
     let so_far = c.loop-datagram.invariant in
     let is : c.next.result ≡ Ok (Some c.in-Ok-Some.datagram) = cc (c.in-Ok-Some.is, c.in-Ok-Some.field-0-is) in
-    let tells : Tells (input_state g.F.Datagrams.left g.F.Datagrams.ending g.F.Datagrams.handed g.F.Datagrams.faults g.F.Datagrams.captured c.loop-datagram.flows)
-    (input_state g.F.Datagrams.left g.F.Datagrams.ending g.F.Datagrams.handed g.F.Datagrams.faults g.F.Datagrams.captured c.next.new.self) c.next.result = record {
+    let tells : Tells (g.F.Datagrams.state c.loop-datagram.flows)
+    (g.F.Datagrams.state c.next.new.self) c.next.result = record {
       left = c.next.ensures.left;
       handed = c.next.ensures.handed;
       ends = c.next.ensures.ends;
       ending = c.next.ensures.ending;
+      ended = λ is. says_ended _ _ c.next.result is c.next.ensures.ended;
       cause = c.next.ensures.cause;
       of_capture = c.next.ensures.of_capture;
       captured = c.next.ensures.captured;
     } in
     let next = rw c.in-Some.is at (c.in_ok-which.ensures.stops starts _ (handed_out so_far.answers) (so_far.goes_on starts on)) in
-    let stops = subst (λ (handed : List Datagram). Stops job most starts (state_of g.A.Sink.held g.A.Sink.faults c.args.audit.now) handed c.in-Some.which
-    c.take_next.new.running.collector c.take_next.new.running.plugins.items c.take_next.new.running.log (state_of g.A.Sink.held g.A.Sink.faults c.take_next.new.audit))
+    let stops = subst (λ (handed : List Datagram). Stops job most starts (g.A.Sink.state c.args.audit.now) handed c.in-Some.which
+    c.take_next.new.running.collector c.take_next.new.running.plugins.items c.take_next.new.running.log (g.A.Sink.state c.take_next.new.audit))
     (handed_more g.F.Datagrams.call c.calls_of_datagrams_join.ensures.one_more so_far.answers c.next.result c.in-Ok-Some.datagram is) next in
     taken_all c.adjoining_spans_join.ensures g.F.Datagrams.call c.calls_of_datagrams_join.ensures.one_more c.args.flows.now c.loop-datagram.flows c.next.new.self _ _ _ so_far.answers c.next.result so_far.answered c.next.ensures.call tells
     job most starts _ _ _ _ _ _ (ends_by_limit job most (so_far.answers ++ c.next.result ∷ []) c.in-Some.which stops.passes) stops.run
@@ -118,12 +119,13 @@ loop-datagram-preserved g c =
     let most = most_in c.args.limits.now in
     let so_far = c.loop-datagram.invariant in
     let is : c.next.result ≡ Ok (Some c.in-Ok-Some.datagram) = cc (c.in-Ok-Some.is, c.in-Ok-Some.field-0-is) in
-    let tells : Tells (input_state g.F.Datagrams.left g.F.Datagrams.ending g.F.Datagrams.handed g.F.Datagrams.faults g.F.Datagrams.captured c.loop-datagram.flows)
-    (input_state g.F.Datagrams.left g.F.Datagrams.ending g.F.Datagrams.handed g.F.Datagrams.faults g.F.Datagrams.captured c.next.new.self) c.next.result = record {
+    let tells : Tells (g.F.Datagrams.state c.loop-datagram.flows)
+    (g.F.Datagrams.state c.next.new.self) c.next.result = record {
       left = c.next.ensures.left;
       handed = c.next.ensures.handed;
       ends = c.next.ensures.ends;
       ending = c.next.ensures.ending;
+      ended = λ is. says_ended _ _ c.next.result is c.next.ensures.ended;
       cause = c.next.ensures.cause;
       of_capture = c.next.ensures.of_capture;
       captured = c.next.ensures.captured;
@@ -132,8 +134,8 @@ loop-datagram-preserved g c =
       answers = so_far.answers ++ c.next.result ∷ [];
       answered = answered_more c.adjoining_spans_join.ensures g.F.Datagrams.call c.calls_of_datagrams_join.ensures.one_more c.args.flows.now c.loop-datagram.flows c.next.new.self _ _ _ so_far.answers c.next.result so_far.answered c.next.ensures.call tells;
       goes_on = λ starts on.
-          subst (λ (handed : List Datagram). GoesOn job most starts (state_of g.A.Sink.held g.A.Sink.faults c.args.audit.now) handed
-          c.take_next.new.running.collector c.take_next.new.running.plugins.items c.take_next.new.running.log (state_of g.A.Sink.held g.A.Sink.faults c.take_next.new.audit) c.take_next.new.running.left)
+          subst (λ (handed : List Datagram). GoesOn job most starts (g.A.Sink.state c.args.audit.now) handed
+          c.take_next.new.running.collector c.take_next.new.running.plugins.items c.take_next.new.running.log (g.A.Sink.state c.take_next.new.audit) c.take_next.new.running.left)
           (handed_more g.F.Datagrams.call c.calls_of_datagrams_join.ensures.one_more so_far.answers c.next.result c.in-Ok-Some.datagram is)
           (c.in_ok-which.ensures.next starts _ (handed_out so_far.answers) (so_far.goes_on starts on) (ap Ok c.in_default.is));
     }

@@ -1,9 +1,8 @@
 use Rattle.std.proofs.Common.{List, []}
 use Rattle.outside_io.specs.Calls.{handed_out}
-use Rattle.plugin_work.specs.Sinks.{SinkState, state_of}
+use Rattle.outside_io.specs.States.{SinkState}
 use Rattle.collect_core.specs.Ends.{Answer}
 use Rattle.collect_core.specs.Most.{most_in}
-use Rattle.collect_core.specs.Run.{input_state}
 use Rattle.collect_core.specs.Running.{GoesOn, HasAnswered}
 use Rattle.collect_core.proofs.running.take_all.Given as goal
 
@@ -12,13 +11,13 @@ abbrev pub invariant-loop-datagram : goal.invariant-loop-datagram
 invariant-loop-datagram g l = record {
   answers : List Answer;
   answered : HasAnswered g.F.Datagrams.call l.fn.flows l.flows
-      (input_state g.F.Datagrams.left g.F.Datagrams.ending g.F.Datagrams.handed g.F.Datagrams.faults g.F.Datagrams.captured l.fn.flows)
-      (input_state g.F.Datagrams.left g.F.Datagrams.ending g.F.Datagrams.handed g.F.Datagrams.faults g.F.Datagrams.captured l.flows) answers;
+      (g.F.Datagrams.state l.fn.flows)
+      (g.F.Datagrams.state l.flows) answers;
   goes_on : (starts : List SinkState)
-      → GoesOn l.job (most_in l.limits) starts (state_of g.A.Sink.held g.A.Sink.faults l.fn.audit) [] l.fn.running.collector l.fn.running.plugins.items l.fn.running.log
-      (state_of g.A.Sink.held g.A.Sink.faults l.fn.audit) l.fn.running.left
-      → GoesOn l.job (most_in l.limits) starts (state_of g.A.Sink.held g.A.Sink.faults l.fn.audit) (handed_out answers) l.running.collector l.running.plugins.items l.running.log
-      (state_of g.A.Sink.held g.A.Sink.faults l.audit) l.running.left;
+      → GoesOn l.job (most_in l.limits) starts (g.A.Sink.state l.fn.audit) [] l.fn.running.collector l.fn.running.plugins.items l.fn.running.log
+      (g.A.Sink.state l.fn.audit) l.fn.running.left
+      → GoesOn l.job (most_in l.limits) starts (g.A.Sink.state l.fn.audit) (handed_out answers) l.running.collector l.running.plugins.items l.running.log
+      (g.A.Sink.state l.audit) l.running.left;
 }
 
 abbrev pub decreases-loop-datagram : goal.decreases-loop-datagram

@@ -3,7 +3,8 @@ use Rattle.std.specs.Prelude.{min}
 use Rattle.std.proofs.lemmas.Bool.{lt-ltb, ltb-true}
 use Rattle.out_text.specs.Events.{events_text}
 use Rattle.plugin_work.specs.Plugins.{PluginState}
-use Rattle.collect_core.specs.Audit.{events_in}
+use Rattle.collect_core.specs.Course.{unrouted}
+use Rattle.collect_core.specs.Audit.{told_in}
 use Rattle.collect_core.specs.Due.{due, entries_from, over_all}
 use Rattle.collect_core.specs.Given.{AreGiven}
 use Rattle.collect_core.specs.Most.{most_in}
@@ -17,14 +18,14 @@ returns-clause-run g c = λ starts start flows run.
     let old : List PluginState = c.args.running.now.plugins.items in
     let count : c.min-count.result ≡ min (length c.in_ok-rows.rows) (c.args.limits.now.records - c.feed.new.self.totals.records) = omega (arith, c.min-count.ensures, c.len.ensures) in
     let rows : take c.min-count.result c.as_slice.result.now ≡ take c.min-count.result c.in_ok-rows.rows = ap (take c.min-count.result) c.as_slice.ensures in
-    let given : AreGiven job.config.plugins starts (λ plugin. due job (most_in c.args.limits.now) plugin flows ++ entries_from job plugin c.feed.new.self.totals.datagrams d.moment 1 (take c.min-count.result c.as_slice.result.now)) c.give_rows.new.plugins =
-    c.in_ok-give_rows.ensures.given starts (λ plugin. due job (most_in c.args.limits.now) plugin flows)
-    (subst (λ (states : List PluginState). AreGiven job.config.plugins starts (λ plugin. due job (most_in c.args.limits.now) plugin flows) states) (sym c.deref_mut.ensures.value) run.given) in
+    let given : AreGiven job.config.plugins starts (λ plugin. due job (most_in c.args.limits.now) unrouted plugin flows ++ entries_from job unrouted plugin c.feed.new.self.totals.datagrams d.moment 1 (take c.min-count.result c.as_slice.result.now)) c.give_rows.new.plugins =
+    c.in_ok-give_rows.ensures.given starts (λ plugin. due job (most_in c.args.limits.now) unrouted plugin flows)
+    (subst (λ (states : List PluginState). AreGiven job.config.plugins starts (λ plugin. due job (most_in c.args.limits.now) unrouted plugin flows) states) (sym c.deref_mut.ensures.value) run.given) in
     let all : c.args.running.now.plugins.len ≡ length old = sym c.deref_mut.ensures.len ∙ ap (λ (states : List PluginState). length states) c.deref_mut.ensures.value in
     rw (same_plugins c.args.running.now.plugins.len old c.give_rows.new.plugins all (as_many job.config.plugins starts _ _ old c.give_rows.new.plugins run.given given))
     (run_more job (most_in c.args.limits.now) starts start flows d c.args.running.now.collector c.feed.new.self _ old c.give_rows.new.plugins c.args.running.now.log c.write.new.self _ _
     c.in_ok-rows.rows (take c.min-count.result c.as_slice.result.now) c.feed.new.text c.min-count.result run (c.in_ok-rows.ensures.fed flows run.seen) c.in_ok-rows.ensures.records c.in_ok-rows.ensures.others
-    (c.write.ensures.written start (events_text (over_all (events_in job) flows)) run.written) c.write.ensures.text count rows given refl refl)
+    (c.write.ensures.written start (events_text (over_all (told_in job) flows)) run.written) c.write.ensures.text count rows given refl refl)
 
 pub returns-clause-passes : goal.returns-clause-passes
 returns-clause-passes g c = λ starts start flows run few.

@@ -1,5 +1,4 @@
 use Rattle.std.proofs.Common.{◌∷◌, ◌++◌, [], ℕ, subst, sym}
-use Rattle.plugin_work.specs.Sinks.{state_of}
 use Rattle.collect_core.specs.Most.{most_in}
 use Rattle.collect_core.specs.Running.{GoesOn}
 use Rattle.collect_core.proofs.RunLemmas.{goes_on, not_more, stops_by_octets, stops_by_records}
@@ -19,7 +18,7 @@ returns-else-passes-clause-next g c = λ starts start handed on _.
     let here = rw c.event_octets-octets.ensures at c.if-octets-running.false in
     let left = rw c.event_octets-octets.ensures at c.in_ok-passes.ensures.left in
     subst (λ (left : ℕ). GoesOn c.args.job.now (most_in c.args.limits.now) starts start (handed ++ c.args.datagram.now ∷ [])
-    c.take_datagram.new.running.collector c.take_datagram.new.running.plugins.items c.take_datagram.new.running.log (state_of g.A.Sink.held g.A.Sink.faults c.take_datagram.new.audit) left) (sym left)
+    c.take_datagram.new.running.collector c.take_datagram.new.running.plugins.items c.take_datagram.new.running.log (g.A.Sink.state c.take_datagram.new.audit) left) (sym left)
     (goes_on c.args.job.now (most_in c.args.limits.now) starts start handed c.args.datagram.now _ _ _ _ _ _ _ _ c.args.running.now.left on here
     (c.in_ok-passes.ensures.run starts start handed on.run)
     (not_more c.args.limits.now.records _ c.in_ok-passes.passes (c.in_ok-passes.ensures.passes starts start handed on.run on.within.records).1 c.if-passes.false))

@@ -1,6 +1,6 @@
 use Rattle.std.proofs.Common.{subst}
 use Rattle.outside_io.specs.declared.ends.OutEnd.{OutEnd}
-use Rattle.plugin_work.specs.Sinks.{IsWritten, state_of}
+use Rattle.plugin_work.specs.Sinks.{IsWritten}
 use Rattle.collect_core.proofs.WrittenLemmas.{none_written}
 use Rattle.collect_core.proofs.log.Log.write.Goals as goal
 use Rattle.collect_core.proofs.log.Log.write.Goals.{in-Whole, in_default}
@@ -11,6 +11,6 @@ returns-clause-written g c = λ start text so_far.
       | in-Whole w ↦
           rw (w.self-is, w.audit-is)
           (rw w.as_slice.ensures at (w.write_text-self.ensures start text
-          (subst (λ (end : OutEnd). IsWritten text end start (state_of g.A.Sink.held g.A.Sink.faults c.args.audit.now)) w.in-Whole.is so_far)))
+          (subst (λ (end : OutEnd). IsWritten text end start (g.A.Sink.state c.args.audit.now)) w.in-Whole.is so_far)))
       | in_default w ↦ rw (w.self-is, w.audit-is) (none_written text c.args.self.now.text c.args.self.now.end start _ w.in_default.not-Whole so_far)
     ]
