@@ -17,7 +17,8 @@ use Rattle.capture_file.specs.declared.flows.CaptureEnd.{CaptureEnd}
 use Rattle.capture_file.specs.declared.flows.CaptureEnd.TheVariants as capture
 use Rattle.collect_core.specs.declared.job.Job.{Job}
 use Rattle.collect_core.specs.Audit.{audit_text}
-use Rattle.collect_core.specs.Due.{all_behind, due, records_in, records_of}
+use Rattle.collect_core.specs.Course.{unrouted}
+use Rattle.collect_core.specs.Due.{all_behind, due, records_in, records_of, taken}
 use Rattle.collect_core.specs.Ends.{Answer, EndsFlows, EndsPlugin, ForEachPlugin, PluginEnding}
 use Rattle.collect_core.specs.Flows.{AreWithin, PassesOctets, PassesRecords, event_octets, fitting, flows_in, up_to_limit}
 use Rattle.collect_core.specs.Most.{FULL}
@@ -31,7 +32,8 @@ use Rattle.outside_io.specs.declared.ends.SideEnd.TheVariants as side
 use Rattle.outside_io.specs.declared.ends.Which.TheVariants as which
 use Rattle.outside_io.specs.declared.input_fault.InputFault.{InputFault}
 use Rattle.outside_io.specs.declared.input_fault.InputFault.TheVariants as fault
-use Rattle.plugin_work.specs.Sinks.{IsWritten, SinkState}
+use Rattle.plugin_work.specs.Sinks.{IsWritten}
+use Rattle.outside_io.specs.States.{SinkState, SourceState}
 use Rattle.acct_top.specs.Conservation.{flow_end, flows_of, side_end}
 use Rattle.acct_top.specs.Run.{EndsAsTaken, SaysEnd}
 
@@ -262,11 +264,11 @@ no_octets : IsSome {T = List ℕ} None → ⊥
 no_octets some = cc some
 
 -- the same where a place tells the octets of the capture
-pub ends_as : FitTheLimit → (job : Job) (answers : List Answer) (capture taken before after : Option (List ℕ)) (end : SideEnd) (h : IsHanded answers before after) → IsSome capture → before ≡ capture
-    → (Takes capture h.octets after → taken ≡ Some h.octets) → EndsFlows job FULL answers end → EndsAsTaken job capture taken h.octets end
-ends_as law job answers capture taken before None end h some same took ends =
+pub ends_as : FitTheLimit → (job : Job) (answers : List Answer) (capture before after : Option (List ℕ)) (taken_before taken_after : List (List ℕ)) (end : SideEnd) (h : IsHanded answers before after) → IsSome capture → before ≡ capture
+    → (Takes capture h.octets after → taken_after ≡ taken_before ++ h.octets ∷ []) → EndsFlows job FULL answers end → EndsAsTaken job capture taken_before taken_after h.octets end
+ends_as law job answers capture before None taken_before taken_after end h some same took ends =
     let none : None ≡ capture = h.taken ∙ same in absurd (no_octets (subst (λ (o : Option (List ℕ)). IsSome o) (sym none) some))
-ends_as law job answers capture taken before (Some later) end h some same took ends = record {
+ends_as law job answers capture before (Some later) taken_before taken_after end h some same took ends = record {
   rest = later;
   splits = sym (h.taken ∙ same);
   taken_is = took (h.taken ∙ same);
@@ -274,10 +276,11 @@ ends_as law job answers capture taken before (Some later) end h some same took e
 }
 
 -- what an input over a reader of a capture handed out, by the octets that the source of the reader had and has
-pub handed : {S : Type 0} (left : S → Option (List ℕ)) (Call : CaptureFlows S → CaptureFlows S → Answer → Type 0) → FlowsHandOutTaken left Call
+pub handed : {S : Type 0} (state : S → SourceState) (Call : CaptureFlows S → CaptureFlows S → Answer → Type 0) → FlowsHandOutTaken state Call
     → (reader : CaptureReader S) (before after : CaptureFlows S) (answers : List Answer) (input output : S) → flows_reader before ≡ reader → IsFresh true reader → (standing_of reader).most ≡ FULL.octets
-    → source_of reader ≡ input → output ≡ source_of (flows_reader after) → Calls Call before after answers → IsHanded answers (left input) (left output)
-handed {S = S} left Call law reader before after answers input output same fresh most had has calls =
+    → source_of reader ≡ input → output ≡ source_of (flows_reader after) → Calls Call before after answers → IsHanded answers (state input).left (state output).left
+handed {S = S} state Call law reader before after answers input output same fresh most had has calls =
+    let left : S → Option (List ℕ) = λ s. (state s).left in
     let h = law before after answers (subst (λ (r : CaptureReader S). IsFresh true r) (sym same) fresh) calls in
     let by_most = subst (λ (m : ℕ). HandsOutTaken (datagrams_of m) (end_of m) (left (source_of (flows_reader before))) (left (source_of (flows_reader after))) answers) (ap (λ (r : CaptureReader S). (standing_of r).most) same ∙ most) h in
     subst (λ (o : Option (List ℕ)). IsHanded answers o (left output)) (ap (λ (r : CaptureReader S). left (source_of r)) same ∙ ap left had)
@@ -285,8 +288,11 @@ handed {S = S} left Call law reader before after answers input output same fresh
 
 -- what is written of datagrams is written of the same ones
 pub plugins_of : (job : Job) (flows other : List Datagram) (plugins : List PluginConfig) (starts : List SinkState) (endings : List PluginEnding) → flows ≡ other
-    → ForEachPlugin (λ plugin start ending. EndsPlugin plugin (due job FULL plugin flows) start ending) plugins starts endings → ForEachPlugin (λ plugin start ending. EndsPlugin plugin (due job FULL plugin other) start ending) plugins starts endings
-plugins_of job flows other plugins starts endings same h = subst (λ (ds : List Datagram). ForEachPlugin (λ plugin start ending. EndsPlugin plugin (due job FULL plugin ds) start ending) plugins starts endings) same h
+    → ForEachPlugin (λ plugin start ending. EndsPlugin plugin (taken unrouted plugin (due job FULL unrouted plugin flows)) start ending) plugins starts endings
+    → ForEachPlugin (λ plugin start ending. EndsPlugin plugin (taken unrouted plugin (due job FULL unrouted plugin other)) start ending) plugins starts endings
+plugins_of job flows other plugins starts endings same h =
+    subst (λ (ds : List Datagram). ForEachPlugin (λ plugin start ending. EndsPlugin plugin (taken unrouted plugin (due job FULL unrouted plugin ds)) start ending) plugins starts endings) same h
 
-pub audit_of : (job : Job) (flows other : List Datagram) (end : OutEnd) (start sink : SinkState) → flows ≡ other → IsWritten (audit_text job FULL flows) end start sink → IsWritten (audit_text job FULL other) end start sink
-audit_of job flows other end start sink same h = subst (λ (ds : List Datagram). IsWritten (audit_text job FULL ds) end start sink) same h
+pub audit_of : (job : Job) (flows other : List Datagram) (end : OutEnd) (start sink : SinkState) → flows ≡ other → IsWritten (audit_text job FULL unrouted flows) end start sink
+    → IsWritten (audit_text job FULL unrouted other) end start sink
+audit_of job flows other end start sink same h = subst (λ (ds : List Datagram). IsWritten (audit_text job FULL unrouted ds) end start sink) same h

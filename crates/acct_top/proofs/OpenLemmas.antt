@@ -1,6 +1,6 @@
 -- On the outputs as they begin.
 use Rattle.std.proofs.Common.{◌≡◌, ◌∙◌, ◌++◌, ◌≢◌, ◌≤◌, ◌-◌, [], ◌∷◌, ℕ, List, false, Option, None, Some, unwrap_or, refl, sym, ap, subst, length, get_or, take, drop, inl, inr, arith}
-use Rattle.std.specs.Prelude.{◌⊎◌, All, OnOk, Result, Ok, Err, is_err, slice_index_or}
+use Rattle.std.specs.Prelude.{◌⊎◌, All, OnOk, Result, Ok, Err, is_err, slice_index_or, IsSome}
 use Rattle.std.specs.Io.KnownBytes.{prepend_known}
 use Rattle.std.proofs.lemmas.List.{append-nil, take_all}
 use Rattle.std.proofs.lemmas.List.Elements.{All-cons, All-head, All-nil, All-tail}
@@ -183,11 +183,11 @@ pub capture_unopened : (job : Job) (capture : List ℕ) (answer : Answer) (old n
 capture_unopened job capture answer old new is (inl none) same = subst (λ (a : Answer). IsOpenFault job a old new) (sym none) tt
 capture_unopened job capture answer old new is (inr fault) same = subst (λ (a : Answer). IsOpenFault job a old new) (sym fault) (inl (is, same))
 
-pub output_unopened : (job : Job) (answer : Answer) (old new after : Names) → after ≡ new → IsOutputFault job job.config.plugins answer old new → IsOpenFault job answer old after
-output_unopened job (OpenFault name) old new after same h =
-    inr (record { first = h.first; others = h.others; splits = h.splits; which = h.which; begun = subst (λ (n : Names). AreBegun h.first old n) (sym same) h.begun })
-output_unopened job NoMemory old new after same h = tt
-output_unopened job answer old new after same h = h
+pub output_unopened : (job : Job) (answer : Answer) (old new after : Names) → IsSome (old (capture_of job)) → after ≡ new → IsOutputFault job job.config.plugins answer old new → IsOpenFault job answer old after
+output_unopened job (OpenFault name) old new after there same h =
+    inr (there, record { first = h.first; others = h.others; splits = h.splits; which = h.which; begun = subst (λ (n : Names). AreBegun h.first old n) (sym same) h.begun })
+output_unopened job NoMemory old new after there same h = tt
+output_unopened job answer old new after there same h = h
 
 pub keeps_others : (job : Job) (old new : Names) → KeepsAllBut job job.config.plugins old new → KeepsOthers job old new
 keeps_others job old new keeps name none = keeps name none.plugins none.audit

@@ -146,6 +146,7 @@ same_job some other tool file names h k =
     record {
       config = h.is.config_is ∙ same ∙ sym k.is.config_is;
       tags = same_map tag_map_of [] names k.config.pre_tag_map some.tags other.tags (subst (λ (c : ConfigSays). IsMap tag_map_of [] names c.pre_tag_map some.tags) same h.tags) k.tags;
+      agents = h.agents ∙ sym k.agents;
       samplings = same_map sampling_map_of [] names k.config.sampling_map some.samplings other.samplings (subst (λ (c : ConfigSays). IsMap sampling_map_of [] names c.sampling_map some.samplings) same h.samplings) k.samplings;
     }
 

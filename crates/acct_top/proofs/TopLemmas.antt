@@ -1,6 +1,6 @@
 -- From what holds of a job to what holds of the words, and the answers that are owed.
 use Rattle.std.proofs.Common.{◌≡◌, ◌∙◌, ◌≢◌, ◌++◌, ◌≤◌, [], ◌∷◌, ℕ, List, Bool, Option, Some, refl, sym, ap, subst, length, inl, inr}
-use Rattle.std.specs.Prelude.{◌-◌, All, nat_lt, if◌then◌else◌, unwrap_or, slice_index_or}
+use Rattle.std.specs.Prelude.{◌-◌, IsTrue, nat_lt, if◌then◌else◌, unwrap_or}
 use Rattle.std.proofs.lemmas.List.{append-nil}
 use Rattle.acct_types.specs.declared.datagram.Datagram.{Datagram}
 use Rattle.capture_file.specs.Capture.{datagrams_of, end_of}
@@ -25,125 +25,46 @@ use Rattle.pretag_map.specs.SamplingLines.{SamplingLine}
 use Rattle.acct_top.specs.declared.answer.AnyCause.{AnyCause}
 use Rattle.acct_top.specs.declared.answer.Answer.{Answer}
 use Rattle.acct_top.specs.declared.answer.Answer.TheVariants.{Done, Usage, ConfigRefused, OpenFault, FlowFault, CaptureTorn, CaptureBad, WriteFault, SayFault, TooMany, NoMemory}
-use Rattle.acct_top.specs.Answers.{Accepts, HasReason, HaveOneJob, Holds, HoldsOfJob, IsConfigRefused, IsSameJob, IsStopped, IsUnopened, JobReason, NamesFile, OfJob, RunReason, side_answer}
+use Rattle.acct_top.specs.Answers.{Accepts, Begins, HasReason, HaveOneJob, Holds, HoldsOfJob, IsConfigRefused, IsSameJob, IsStopped, IsUnopened, JobReason, NamesFile, OfJob, OfRun, RunReason, side_answer}
 use Rattle.acct_top.specs.Complete.{HasCapture, IsOwed}
 use Rattle.acct_top.specs.Conservation.{HoldsOutput, HoldsOutputButFor, HoldsText, IsAccountedButFor, IsTaken, KeepsOthers, flow_end, flows_of, side_end, start_of}
 use Rattle.acct_top.specs.Job.{capture_of}
 use Rattle.acct_top.specs.Reading.{GivesNoJob, IsJob}
 use Rattle.acct_top.specs.Said.{IsSaidAs}
-use Rattle.acct_top.specs.State.{OnlyRead, State}
+use Rattle.outside_io.specs.States.{OnlyRead, PlaceState}
 use Rattle.acct_top.proofs.ReadingLemmas.{one_refusal, refused_or_not, rose_earlier, same_job, same_octets}
 
--- ---- a job that began a little later
+-- ---- from a job to the words
 
--- nothing that matters to a job differs, but for reads that failed
-pub record BeganLater (before middle : State) : Type 0 where
-  pub names : middle.names ≡ before.names
-  pub writes : middle.writes ≡ before.writes
-  pub reads : (name : List ℕ) → before.reads name ≤ middle.reads name
-
-text_earlier : (w w' : List ℕ → ℕ) (after : List ℕ → ℕ) (name start text : List ℕ) (octets : Option (List ℕ)) → w' ≡ w → HoldsText (Rose (w' name) (after name)) start text octets → HoldsText (Rose (w name) (after name)) start text octets
-text_earlier w w' after name start text octets same h = subst (λ (f : List ℕ → ℕ). HoldsText (Rose (f name) (after name)) start text octets) same h
-
-but_for_earlier : (job : Job) (flows : List Datagram) (before middle after : State) (plugin : PluginConfig) → BeganLater before middle → HoldsOutputButFor job flows middle after plugin → HoldsOutputButFor job flows before after plugin
-but_for_earlier job flows before middle after plugin b h = record {
-  purges = h.purges;
-  are = h.are;
-  output = subst (λ (n : Names). HoldsText (Rose (before.writes plugin.file) (after.writes plugin.file)) (start_of n plugin) (texts_of plugin h.purges) (after.names plugin.file)) b.names
-      (text_earlier before.writes middle.writes after.writes plugin.file _ _ _ b.writes h.output);
-  sums = h.sums;
-}
-
-accounted_earlier : (job : Job) (flows : List Datagram) (before middle after : State) → BeganLater before middle → IsAccountedButFor job flows middle after → IsAccountedButFor job flows before after
-accounted_earlier job flows before middle after b a = record {
-  audit = text_earlier before.writes middle.writes after.writes job.config.acct_audit_file [] _ _ b.writes a.audit;
-  plugins = λ k d lt. but_for_earlier job flows before middle after (slice_index_or job.config.plugins k d) b (a.plugins k d lt);
-  others = subst (λ (n : Names). KeepsOthers job n after.names) b.names a.others;
-}
-
-taken_earlier : (job : Job) (before middle after : State) (octets rest : List ℕ) → BeganLater before middle → IsTaken job middle after octets rest → IsTaken job before after octets rest
-taken_earlier job before middle after octets rest b h = record { capture = sym (ap (λ (n : Names). n (capture_of job)) b.names) ∙ h.capture; taken = h.taken }
-
-whole_earlier : (job : Job) (flows : List Datagram) (before middle after : State) (plugins : List PluginConfig) → BeganLater before middle → All (HoldsOutput job flows middle.names after.names) plugins → All (HoldsOutput job flows before.names after.names) plugins
-whole_earlier job flows before middle after plugins b h = subst (λ (n : Names). All (HoldsOutput job flows n after.names) plugins) b.names h
-
-stopped_earlier : (job : Job) (answer : Answer) (before middle after : State) → BeganLater before middle → IsStopped job answer middle after → IsStopped job answer before after
-stopped_earlier job answer before middle after b h = record {
-  octets = h.octets;
-  rest = h.rest;
-  taken = taken_earlier job before middle after h.octets h.rest b h.taken;
-  says = h.says;
-  whole_says = h.whole_says;
-  accounted = accounted_earlier job (flows_of job h.octets) before middle after b h.accounted;
-}
-
-pub job_earlier : (answer : Answer) (job : Job) (before middle after : State) → BeganLater before middle → HoldsOfJob answer job middle after → HoldsOfJob answer job before after
-job_earlier Done job before middle after b h = record {
-  octets = h.octets;
-  taken = taken_earlier job before middle after h.octets [] b h.taken;
-  ended = h.ended;
-  accounted = record {
-    audit = h.accounted.audit;
-    plugins = whole_earlier job (flows_of job h.octets) before middle after job.config.plugins b h.accounted.plugins;
-    others = subst (λ (n : Names). KeepsOthers job n after.names) b.names h.accounted.others;
-  };
-}
-job_earlier FlowFault job before middle after b h = record {
-  octets = h.octets;
-  rest = h.rest;
-  taken = taken_earlier job before middle after h.octets h.rest b h.taken;
-  failed = rose_earlier _ _ _ (b.reads (capture_of job)) h.failed;
-  few = h.few;
-  accounted = accounted_earlier job (flows_of job h.octets) before middle after b h.accounted;
-}
-job_earlier (CaptureTorn flows place) job before middle after b h = stopped_earlier job (CaptureTorn flows place) before middle after b h
-job_earlier (CaptureBad flows place cause) job before middle after b h = stopped_earlier job (CaptureBad flows place cause) before middle after b h
-job_earlier (TooMany which) job before middle after b h = stopped_earlier job (TooMany which) before middle after b h
-job_earlier (WriteFault name) job before middle after b h = record {
-  octets = h.octets;
-  taken = taken_earlier job before middle after h.octets [] b h.taken;
-  ended = h.ended;
-  first = h.first;
-  others = h.others;
-  splits = h.splits;
-  which = h.which;
-  whole = whole_earlier job (flows_of job h.octets) before middle after h.first b h.whole;
-  failed = subst (λ (f : List ℕ → ℕ). Rose (f name) (after.writes name)) b.writes h.failed;
-  accounted = accounted_earlier job (flows_of job h.octets) before middle after b h.accounted;
-}
-job_earlier (OpenFault name) job before middle after b h = subst (λ (n : Names). IsUnopened job name n after.names) b.names h
-job_earlier NoMemory job before middle after b h = tt
-job_earlier Usage job before middle after b h = absurd h
-job_earlier (ConfigRefused file line cause) job before middle after b h = absurd h
-job_earlier SayFault job before middle after b h = absurd h
-
--- what holds of the words' job holds of the words
-pub holds_of_words : (answer : Answer) (tool : Tool) (words : List (List ℕ)) (job : Job) (before after : State) → Accepts tool words before.names job → HoldsOfJob answer job before after → Holds answer tool words before after
-holds_of_words Done tool words job before after a h = (job, a, h)
-holds_of_words FlowFault tool words job before after a h = (job, a, h)
-holds_of_words (CaptureTorn flows place) tool words job before after a h = (job, a, h)
-holds_of_words (CaptureBad flows place cause) tool words job before after a h = (job, a, h)
-holds_of_words (TooMany which) tool words job before after a h = (job, a, h)
-holds_of_words (WriteFault name) tool words job before after a h = (job, a, h)
-holds_of_words (OpenFault name) tool words job before after a h = inr (job, a, h)
-holds_of_words NoMemory tool words job before after a h = tt
-holds_of_words Usage tool words job before after a h = absurd h
-holds_of_words (ConfigRefused file line cause) tool words job before after a h = absurd h
-holds_of_words SayFault tool words job before after a h = absurd h
+-- what holds of a job whose run begins so holds of the words
+pub holds_of_words : (answer : Answer) (tool : Tool) (words : List (List ℕ)) (job : Job) (before begun after : PlaceState) → (accepts : Accepts tool words before.names job) → Begins accepts.file job before begun → HoldsOfJob answer job begun after
+    → Holds answer tool words before after
+holds_of_words Done tool words job before begun after a b h = (job, a, begun, b, h)
+holds_of_words FlowFault tool words job before begun after a b h = (job, a, begun, b, h)
+holds_of_words (CaptureTorn flows place) tool words job before begun after a b h = (job, a, begun, b, h)
+holds_of_words (CaptureBad flows place cause) tool words job before begun after a b h = (job, a, begun, b, h)
+holds_of_words (TooMany which) tool words job before begun after a b h = (job, a, begun, b, h)
+holds_of_words (WriteFault name) tool words job before begun after a b h = (job, a, begun, b, h)
+holds_of_words (OpenFault name) tool words job before begun after a b h = inr (job, a, begun, b, h)
+holds_of_words NoMemory tool words job before begun after a b h = tt
+holds_of_words Usage tool words job before begun after a b h = absurd h
+holds_of_words (ConfigRefused file line cause) tool words job before begun after a b h = absurd h
+holds_of_words SayFault tool words job before begun after a b h = absurd h
 
 -- a reason of a job is one of the words
-pub reason_of_words : (answer : Answer) (tells : Bool) (tool : Tool) (words : List (List ℕ)) (before middle after : State) → OnlyRead before middle → JobReason answer middle after → RunReason answer tells tool words before after
-reason_of_words Done tells tool words before middle after b h = tt
-reason_of_words FlowFault tells tool words before middle after b h = (h.0, rose_earlier _ _ _ (b.reads h.0) h.1)
-reason_of_words (CaptureTorn flows place) tells tool words before middle after b h = tt
-reason_of_words (CaptureBad flows place cause) tells tool words before middle after b h = tt
-reason_of_words (TooMany which) tells tool words before middle after b h = tt
-reason_of_words (WriteFault name) tells tool words before middle after b h = subst (λ (f : List ℕ → ℕ). Rose (f name) (after.writes name)) b.writes h
-reason_of_words (OpenFault name) tells tool words before middle after b h = inl (rose_earlier _ _ _ (b.opens name) h)
-reason_of_words NoMemory tells tool words before middle after b h = tt
-reason_of_words Usage tells tool words before middle after b h = absurd h
-reason_of_words (ConfigRefused file line cause) tells tool words before middle after b h = absurd h
-reason_of_words SayFault tells tool words before middle after b h = absurd h
+pub reason_of_words : (answer : Answer) (tells : Bool) (tool : Tool) (words : List (List ℕ)) (job : Job) (before middle after : PlaceState) → OnlyRead before middle → (IsTrue tells → Accepts tool words before.names job) → JobReason answer job middle after
+    → RunReason answer tells tool words before after
+reason_of_words Done tells tool words job before middle after b a h = tt
+reason_of_words FlowFault tells tool words job before middle after b a h = (capture_of job, λ told. (job, a told, refl), rose_earlier _ _ _ (b.reads (capture_of job)) h)
+reason_of_words (CaptureTorn flows place) tells tool words job before middle after b a h = tt
+reason_of_words (CaptureBad flows place cause) tells tool words job before middle after b a h = tt
+reason_of_words (TooMany which) tells tool words job before middle after b a h = tt
+reason_of_words (WriteFault name) tells tool words job before middle after b a h = subst (λ (f : List ℕ → ℕ). Rose (f name) (after.writes name)) b.writes h
+reason_of_words (OpenFault name) tells tool words job before middle after b a h = inl (rose_earlier _ _ _ (b.opens name) h)
+reason_of_words NoMemory tells tool words job before middle after b a h = tt
+reason_of_words Usage tells tool words job before middle after b a h = absurd h
+reason_of_words (ConfigRefused file line cause) tells tool words job before middle after b a h = absurd h
+reason_of_words SayFault tells tool words job before middle after b a h = absurd h
 
 -- ---- jobs that ask for the same
 
@@ -198,15 +119,21 @@ one_end tool words names job octets end a there e =
     let one : octets ≡ e.2.0 = same_octets (names (capture_of job)) octets e.2.0 there (ap names (same_capture job e.0 same) ∙ e.2.1) in
     same_end job e.0 same octets ∙ ap (flow_end e.0) one ∙ e.2.2
 
+-- what the capture had before the words were read
+capture_was : (job : Job) (before begun after : PlaceState) (octets rest : List ℕ) → begun.names ≡ before.names → IsTaken job begun after octets rest → before.names (capture_of job) ≡ Some (octets ++ rest)
+capture_was job before begun after octets rest same taken = sym (ap (λ (n : Names). n (capture_of job)) same) ∙ taken.capture
+
 -- a run that took a whole capture, which ended
-ended_or_not : (tool : Tool) (words : List (List ℕ)) (before after : State) (job : Job) (octets : List ℕ) (end : SideEnd) → Accepts tool words before.names job → IsTaken job before after octets [] → flow_end job octets ≡ side.Ended
-    → end ≢ side.Ended → Ends tool words before.names end → ⊥
-ended_or_not tool words before after job octets end a taken ended not e =
-    not (sym (one_end tool words before.names job (octets ++ []) end a taken.capture e) ∙ ap (flow_end job) (append-nil octets) ∙ ended)
+ended_or_not : (tool : Tool) (words : List (List ℕ)) (before begun after : PlaceState) (job : Job) (octets : List ℕ) (end : SideEnd) → (a : Accepts tool words before.names job) → Begins a.file job before begun → IsTaken job begun after octets []
+    → flow_end job octets ≡ side.Ended → end ≢ side.Ended → Ends tool words before.names end → ⊥
+ended_or_not tool words before begun after job octets end a b taken ended not e =
+    not (sym (one_end tool words before.names job (octets ++ []) end a (capture_was job before begun after octets [] b.names taken) e) ∙ ap (flow_end job) (append-nil octets) ∙ ended)
 
 -- one that stopped answers as the whole capture says
-stopped_so : (tool : Tool) (words : List (List ℕ)) (before after : State) (job : Job) (answer : Answer) (end : SideEnd) → Accepts tool words before.names job → IsStopped job answer before after → Ends tool words before.names end → answer ≡ side_answer end
-stopped_so tool words before after job answer end a h e = sym h.whole_says ∙ ap side_answer (one_end tool words before.names job (h.octets ++ h.rest) end a h.taken.capture e)
+stopped_so : (tool : Tool) (words : List (List ℕ)) (before begun after : PlaceState) (job : Job) (answer : Answer) (end : SideEnd) → (a : Accepts tool words before.names job) → Begins a.file job before begun → IsStopped job answer begun after
+    → Ends tool words before.names end → answer ≡ side_answer end
+stopped_so tool words before begun after job answer end a b h e =
+    sym h.whole_says ∙ ap side_answer (one_end tool words before.names job (h.octets ++ h.rest) end a (capture_was job before begun after h.octets h.rest b.names h.taken) e)
 
 refused_once : (tool : Tool) (words : List (List ℕ)) (names : Names) (name other : List ℕ) (line number : ℕ) (cause reason : AnyCause) → IsConfigRefused tool words name line cause names → IsConfigRefused tool words other number reason names
     → ConfigRefused name line cause ≡ ConfigRefused other number reason
@@ -215,30 +142,30 @@ refused_once tool words names name other line number cause reason a b =
     (subst (λ (f : List ℕ). GivesNoJob tool f names other number reason) (sym (same_file tool words a.file b.file a.named b.named)) b.refused)
 
 -- a run that stopped at what the capture says
-owed_stopped : (answer : Answer) (tool : Tool) (words : List (List ℕ)) (before after : State) (s t : ℕ) → answer ≢ Done → OfJob tool words before.names (λ job. IsStopped job answer before after) → IsOwed answer tool words before after s t
+owed_stopped : (answer : Answer) (tool : Tool) (words : List (List ℕ)) (before after : PlaceState) (s t : ℕ) → answer ≢ Done → OfRun tool words before (λ job begun. IsStopped job answer begun after) → IsOwed answer tool words before after s t
 owed_stopped answer tool words before after s t not h = record {
-  complete = λ none whole. absurd (not (stopped_so tool words before after h.0 answer side.Ended h.1 h.2 whole));
+  complete = λ none whole. absurd (not (stopped_so tool words before h.2 after h.0 answer side.Ended h.1 h.3 h.4 whole));
   usage = λ none. absurd (none h.1.file h.1.named);
   refused = λ file line cause k. absurd (not_both tool words before.names file line cause h.0 k h.1);
-  stopped = λ end open_end e. inl (stopped_so tool words before after h.0 answer end h.1 h.2 e);
+  stopped = λ end open_end e. inl (stopped_so tool words before h.2 after h.0 answer end h.1 h.3 h.4 e);
 }
 
-pub owed : (answer : Answer) (tells : Bool) (tool : Tool) (words : List (List ℕ)) (before after : State) (says_before says_after : ℕ) → Holds answer tool words before after → HasReason answer tells tool words before after says_before says_after
+pub owed : (answer : Answer) (tells : Bool) (tool : Tool) (words : List (List ℕ)) (before after : PlaceState) (says_before says_after : ℕ) → Holds answer tool words before after → HasReason answer tells tool words before after says_before says_after
     → IsOwed answer tool words before after says_before says_after
 owed Done tells tool words before after s t h r = record {
   complete = λ none whole. inl refl;
   usage = λ none. absurd (none h.1.file h.1.named);
   refused = λ file line cause k. absurd (not_both tool words before.names file line cause h.0 k h.1);
-  stopped = λ end not e. absurd (ended_or_not tool words before after h.0 h.2.octets end h.1 h.2.taken h.2.ended not e);
+  stopped = λ end not e. absurd (ended_or_not tool words before h.2 after h.0 h.4.octets end h.1 h.3 h.4.taken h.4.ended not e);
 }
 owed SayFault tells tool words before after s t h r = record {
   complete = λ none whole. absurd (none.says r);
   usage = λ none. absurd (none h.1.file h.1.named);
   refused = λ file line cause k. absurd (not_both tool words before.names file line cause h.0 k h.1);
-  stopped = λ end not e. absurd (ended_or_not tool words before after h.0 h.2.octets end h.1 h.2.taken h.2.ended not e);
+  stopped = λ end not e. absurd (ended_or_not tool words before h.2 after h.0 h.4.octets end h.1 h.3 h.4.taken h.4.ended not e);
 }
 owed FlowFault tells tool words before after s t h r = record {
-  complete = λ none whole. absurd (none.reads r.0 r.1);
+  complete = λ none whole. absurd (none.reads r.0 r.2);
   usage = λ none. absurd (none h.1.file h.1.named);
   refused = λ file line cause k. absurd (not_both tool words before.names file line cause h.0 k h.1);
   stopped = λ end not e. inr (inl refl);
@@ -250,7 +177,7 @@ owed (WriteFault name) tells tool words before after s t h r = record {
   complete = λ none whole. absurd (none.writes name r);
   usage = λ none. absurd (none h.1.file h.1.named);
   refused = λ file line cause k. absurd (not_both tool words before.names file line cause h.0 k h.1);
-  stopped = λ end not e. absurd (ended_or_not tool words before after h.0 h.2.octets end h.1 h.2.taken h.2.ended not e);
+  stopped = λ end not e. absurd (ended_or_not tool words before h.2 after h.0 h.4.octets end h.1 h.3 h.4.taken h.4.ended not e);
 }
 owed (OpenFault name) tells tool words before after s t h r = record {
   complete = λ none whole. absurd (elim r [ inl o ↦ none.opens name o | inr n ↦ none.reads name n.1 ]);
@@ -282,7 +209,7 @@ owed NoMemory tells tool words before after s t h r = record {
 
 -- ---- what holds of an answer holds after its line was said
 
-pub said_holds : (answer said : Answer) (tool : Tool) (words : List (List ℕ)) (before after : State) (s t : ℕ) → IsSaidAs answer said s t → Holds answer tool words before after → Holds said tool words before after
+pub said_holds : (answer said : Answer) (tool : Tool) (words : List (List ℕ)) (before after : PlaceState) (s t : ℕ) → IsSaidAs answer said s t → Holds answer tool words before after → Holds said tool words before after
 said_holds answer said tool words before after s t is h =
     elim is [
       | inl same ↦ subst (λ (a : Answer). Holds a tool words before after) (sym same) h
@@ -290,7 +217,7 @@ said_holds answer said tool words before after s t is h =
       | inr (inr unsaid) ↦ subst (λ (a : Answer). Holds a tool words before after) (sym unsaid.1) (subst (λ (a : Answer). Holds a tool words before after) unsaid.0 h)
     ]
 
-run_reason : (answer : Answer) (tells : Bool) (tool : Tool) (words : List (List ℕ)) (before after : State) (s t : ℕ) → RunReason answer tells tool words before after → HasReason answer tells tool words before after s t
+run_reason : (answer : Answer) (tells : Bool) (tool : Tool) (words : List (List ℕ)) (before after : PlaceState) (s t : ℕ) → RunReason answer tells tool words before after → HasReason answer tells tool words before after s t
 run_reason Done tells tool words before after s t h = h
 run_reason Usage tells tool words before after s t h = h
 run_reason (ConfigRefused file line cause) tells tool words before after s t h = h
@@ -303,7 +230,7 @@ run_reason (WriteFault name) tells tool words before after s t h = h
 run_reason SayFault tells tool words before after s t h = absurd h
 run_reason NoMemory tells tool words before after s t h = h
 
-pub said_reason : (answer said : Answer) (tells : Bool) (tool : Tool) (words : List (List ℕ)) (before after : State) (s t : ℕ) → IsSaidAs answer said s t → RunReason answer tells tool words before after → HasReason said tells tool words before after s t
+pub said_reason : (answer said : Answer) (tells : Bool) (tool : Tool) (words : List (List ℕ)) (before after : PlaceState) (s t : ℕ) → IsSaidAs answer said s t → RunReason answer tells tool words before after → HasReason said tells tool words before after s t
 said_reason answer said tells tool words before after s t is h =
     elim is [
       | inl same ↦ subst (λ (a : Answer). HasReason a tells tool words before after s t) (sym same) (run_reason answer tells tool words before after s t h)

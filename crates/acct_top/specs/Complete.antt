@@ -11,11 +11,11 @@ use Rattle.outside_io.specs.declared.ends.SideEnd.TheVariants.{Ended}
 use Rattle.acct_top.specs.Answers.{IsConfigRefused, IsRead, NamesFile, OfJob, side_answer}
 use Rattle.acct_top.specs.Conservation.{flow_end}
 use Rattle.acct_top.specs.Job.{capture_of}
-use Rattle.acct_top.specs.State.{State}
+use Rattle.outside_io.specs.States.{PlaceState}
 use Rattle.config_keys.specs.declared.tool.Tool.{Tool}
 
 -- no number of faults rose
-pub record NoneRose (before after : State) (says_before says_after : ℕ) : Type 0 where
+pub record NoneRose (before after : PlaceState) (says_before says_after : ℕ) : Type 0 where
   pub opens : (name : List ℕ) → Rose (before.opens name) (after.opens name) → ⊥
   pub reads : (name : List ℕ) → Rose (before.reads name) (after.reads name) → ⊥
   pub writes : (name : List ℕ) → Rose (before.writes name) (after.writes name) → ⊥
@@ -26,7 +26,7 @@ abbrev pub HasCapture : Names → Job → (List ℕ → Type 0) → Type 0
 HasCapture names job P = (octets : List ℕ) × (names (capture_of job) ≡ Some octets) × P octets
 
 -- The answers that are owed to the words and to the octets of the files.
-pub record IsOwed (answer : Answer) (tool : Tool) (words : List (List ℕ)) (before after : State) (says_before says_after : ℕ) : Type 0 where
+pub record IsOwed (answer : Answer) (tool : Tool) (words : List (List ℕ)) (before after : PlaceState) (says_before says_after : ℕ) : Type 0 where
   -- accepted words and configuration, a whole capture within the limits and no fault give Done, unless memory runs out
   pub complete : NoneRose before after says_before says_after → OfJob tool words before.names (λ job. HasCapture before.names job (λ octets. flow_end job octets ≡ Ended))
       → (answer ≡ Done) ⊎ (answer ≡ NoMemory)

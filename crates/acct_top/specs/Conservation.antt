@@ -8,9 +8,11 @@ use Rattle.capture_file.specs.declared.flows.CaptureEnd.TheVariants as capture
 use Rattle.capture_file.specs.Capture.{datagrams_of, end_of}
 use Rattle.collect_core.specs.declared.job.Job.{Job}
 use Rattle.collect_core.specs.Audit.{audit_text}
-use Rattle.collect_core.specs.Due.{due, records_of}
+use Rattle.collect_core.specs.Course.{Course, unrouted}
+use Rattle.collect_core.specs.Due.{Entry, due, lost, records_of, taken}
 use Rattle.collect_core.specs.Ends.{counted, slices_in}
 use Rattle.collect_core.specs.Flows.{flows_in}
+use Rattle.collect_core.specs.Lawful.{IsExact, IsLawful}
 use Rattle.collect_core.specs.Most.{FULL}
 use Rattle.config_keys.specs.declared.plugin.PluginConfig.{PluginConfig}
 use Rattle.config_keys.specs.declared.value.PluginKind.{PluginKind}
@@ -27,7 +29,7 @@ use Rattle.plugin_cache.specs.Slices.{IsPurgeOf, OneForEach, rows_in}
 use Rattle.plugin_cache.specs.Sums.{sums_of}
 use Rattle.plugin_work.specs.Output.{texts_of}
 use Rattle.acct_top.specs.Job.{capture_of}
-use Rattle.acct_top.specs.State.{State}
+use Rattle.outside_io.specs.States.{PlaceState}
 
 -- ---- the capture
 
@@ -50,10 +52,10 @@ flow_end job octets =
     if nat_lt FULL.records (length (records_of job (flows_of job octets))) then side.TooMany which.Records
     else side_end (end_of FULL.octets octets)
 
--- These octets were taken of the capture, and these are left.
-pub record IsTaken (job : Job) (before after : State) (octets rest : List ℕ) : Type 0 where
+-- These octets were taken of the capture, which was read once, and these are left.
+pub record IsTaken (job : Job) (before after : PlaceState) (octets rest : List ℕ) : Type 0 where
   pub capture : before.names (capture_of job) ≡ Some (octets ++ rest)
-  pub taken : after.taken (capture_of job) ≡ Some octets
+  pub taken : after.taken (capture_of job) ≡ before.taken (capture_of job) ++ octets ∷ []
 
 -- ---- the outputs
 
@@ -75,22 +77,30 @@ pub record IsNoOutput (job : Job) (name : List ℕ) : Type 0 where
 abbrev pub KeepsOthers : Job → Names → Names → Type 0
 KeepsOthers job before after = (name : List ℕ) → IsNoOutput job name → after name ≡ before name
 
--- The output of a plugin, whole.
-pub record HoldsOutput (job : Job) (flows : List Datagram) (before after : Names) (plugin : PluginConfig) : Type 0 where
+-- The purges of a plugin's entries: one for each slice of those that it took. For each key, the rows of all purges and the entries that its
+-- ring refused add up to the entries that it is owed.
+pub record ArePurges (course : Course) (plugin : PluginConfig) (owed : List Entry) (purges : List Purge) : Type 0 where
+  pub are : OneForEach IsPurgeOf (slices_in plugin (taken course plugin owed)) purges
+  pub sums : (key : List Cell) → sums_of (rows_in purges ++ counted (lost course plugin owed)) key ≡ sums_of (counted owed) key
+
+-- The output of a plugin, whole: it holds what it began with, and then the texts of its purges.
+pub record HoldsOutput (job : Job) (course : Course) (flows : List Datagram) (before after : Names) (plugin : PluginConfig) : Type 0 where
   pub purges : List Purge
-  -- the purges are those of the slices of what the plugin is owed
-  pub are : OneForEach IsPurgeOf (slices_in plugin (due job FULL plugin flows)) purges
-  -- the output holds what it began with, and then the texts of the purges
+  pub conserves : ArePurges course plugin (due job FULL course plugin flows) purges
   pub output : after plugin.file ≡ Some (start_of before plugin ++ texts_of plugin purges)
-  -- over the rows of all purges each key has the sums that it has over the records due
-  pub sums : (key : List Cell) → sums_of (rows_in purges) key ≡ sums_of (counted (due job FULL plugin flows)) key
 
 -- The outputs hold the texts of these datagrams, whole.
-pub record IsAccounted (job : Job) (flows : List Datagram) (before after : Names) : Type 0 where
+pub record IsAccounted (job : Job) (course : Course) (flows : List Datagram) (before after : Names) : Type 0 where
   -- the audit holds its text alone
-  pub audit : after job.config.acct_audit_file ≡ Some (audit_text job FULL flows)
-  pub plugins : All (HoldsOutput job flows before after) job.config.plugins
+  pub audit : after job.config.acct_audit_file ≡ Some (audit_text job FULL course flows)
+  pub plugins : All (HoldsOutput job course flows before after) job.config.plugins
   pub others : KeepsOthers job before after
+
+-- The course of a run of these datagrams: it is lawful, exact, as on one thread, and without routes.
+pub record IsCourse (job : Job) (flows : List Datagram) (course : Course) : Type 0 where
+  pub lawful : IsLawful job FULL flows course
+  pub exact : IsExact job FULL flows course
+  pub without_routes : course ≡ unrouted
 
 -- What a name holds of a text, behind a start: all of it, or, where its number of faults rose, perhaps a front.
 pub record HoldsText (risen : Type 0) (start text : List ℕ) (octets : Option (List ℕ)) : Type 0 where
@@ -101,16 +111,15 @@ pub record HoldsText (risen : Type 0) (start text : List ℕ) (octets : Option (
   pub whole : (risen → ⊥) → rest ≡ []
 
 -- The output of a plugin: whole, or, where its number of write faults rose, perhaps a front.
-pub record HoldsOutputButFor (job : Job) (flows : List Datagram) (before after : State) (plugin : PluginConfig) : Type 0 where
+pub record HoldsOutputButFor (job : Job) (course : Course) (flows : List Datagram) (before after : PlaceState) (plugin : PluginConfig) : Type 0 where
   pub purges : List Purge
-  pub are : OneForEach IsPurgeOf (slices_in plugin (due job FULL plugin flows)) purges
+  pub conserves : ArePurges course plugin (due job FULL course plugin flows) purges
   pub output : HoldsText (Rose (before.writes plugin.file) (after.writes plugin.file)) (start_of before.names plugin) (texts_of plugin purges) (after.names plugin.file)
-  pub sums : (key : List Cell) → sums_of (rows_in purges) key ≡ sums_of (counted (due job FULL plugin flows)) key
 
 -- The same of all outputs, but for those whose number of write faults rose.
-pub record IsAccountedButFor (job : Job) (flows : List Datagram) (before after : State) : Type 0 where
-  pub audit : HoldsText (Rose (before.writes job.config.acct_audit_file) (after.writes job.config.acct_audit_file)) [] (audit_text job FULL flows) (after.names job.config.acct_audit_file)
-  pub plugins : All (HoldsOutputButFor job flows before after) job.config.plugins
+pub record IsAccountedButFor (job : Job) (course : Course) (flows : List Datagram) (before after : PlaceState) : Type 0 where
+  pub audit : HoldsText (Rose (before.writes job.config.acct_audit_file) (after.writes job.config.acct_audit_file)) [] (audit_text job FULL course flows) (after.names job.config.acct_audit_file)
+  pub plugins : All (HoldsOutputButFor job course flows before after) job.config.plugins
   pub others : KeepsOthers job before.names after.names
 
 -- The output that comes behind those of the plugins before these, in order: the first of these, or else the audit.

@@ -6,5 +6,4 @@ pub mod Reading
 pub mod Run
 pub mod Said
 pub mod Say
-pub mod State
 pub mod Status

@@ -1,14 +1,14 @@
 -- What is read before a run: the text of the configuration, and those of its maps.
-use Rattle.std.specs.Prelude.{◌≡◌, ◌⊎◌, ◌≤◌, ◌<◌, ⊤, ℕ, List, [], length, Option, Some, None, Result, Ok, Err}
+use Rattle.std.specs.Prelude.{◌≡◌, ◌⊎◌, ◌≤◌, ◌<◌, ⊤, ℕ, List, [], ◌∷◌, ◌++◌, length, Option, Some, None, Result, Ok, Err}
 use Rattle.outside_io.specs.Causes.{Rose}
-use Rattle.outside_io.specs.Names.{Names}
+use Rattle.outside_io.specs.Names.{Names, Puts}
 use Rattle.acct_top.specs.declared.answer.AnyCause.{AnyCause}
 use Rattle.acct_top.specs.declared.answer.AnyCause.TheVariants.{Config, Map, TooLong}
 use Rattle.acct_top.specs.declared.answer.Answer.{Answer}
 use Rattle.acct_top.specs.declared.answer.Answer.TheVariants.{ConfigRefused, OpenFault, NoMemory}
 use Rattle.collect_core.specs.declared.job.Job.{Job}
 use Rattle.acct_top.specs.Job.{IsJobOf, built_config}
-use Rattle.acct_top.specs.State.{State}
+use Rattle.outside_io.specs.States.{PlaceState}
 use Rattle.config_keys.specs.Reading.{ConfigSays}
 use Rattle.config_keys.specs.declared.fault.ConfigCause.TheVariants.{MissingKey}
 use Rattle.config_keys.specs.declared.fault.ConfigFault.TheVariants as config
@@ -71,6 +71,11 @@ AreSamplings names config samplings = IsMap sampling_map_of [] names config.samp
 abbrev pub IsMapRefused : {M : Type 0} → (List ℕ → Result M MapFault) → Names → Option (List ℕ) → List ℕ → ℕ → AnyCause → Type 0
 IsMapRefused said names map name line cause = (map ≡ Some name) × IsRefused (HasMapCause said) names name line cause
 
+-- the names that a configuration reads beside its file, in order
+abbrev pub named : Option (List ℕ) → List (List ℕ)
+named None = []
+named (Some name) = name ∷ []
+
 -- ---- the job of a file
 
 -- the configuration of a file and its maps give this job
@@ -78,6 +83,7 @@ pub record IsJob (job : Job) (tool : Tool) (file : List ℕ) (names : Names) : T
   pub config : ConfigSays
   pub said : Says (built_config tool file) names file config
   pub tags : AreTags names config job.tags
+  pub agents : job.agents ≡ []
   pub samplings : AreSamplings names config job.samplings
   pub is : IsJobOf job config
 
@@ -110,6 +116,20 @@ IsReadFor tool file names name =
     (name ≡ file)
     ⊎ ((config : ConfigSays) × Says (built_config tool file) names file config
     × ((config.pre_tag_map ≡ Some name) ⊎ ((tags : List TagRule) × AreTags names config tags × (config.sampling_map ≡ Some name))))
+
+-- the names that are read before the run of a file's job, in order
+abbrev pub read_before : List ℕ → Job → List (List ℕ)
+read_before file job = file ∷ (named job.config.pre_tag_map ++ named job.config.sampling_map)
+
+-- one close more took these octets of a name
+abbrev pub TakesMore : (List ℕ → List (List ℕ)) → (List ℕ → List (List ℕ)) → List ℕ → List ℕ → Type 0
+TakesMore before after name octets = Puts before after name (before name ++ octets ∷ [])
+
+-- each of these names was read to its end, one after another
+abbrev pub TakesEach : Names → List (List ℕ) → (List ℕ → List (List ℕ)) → (List ℕ → List (List ℕ)) → Type 0
+TakesEach names [] before after = after ≡ before
+TakesEach names (name ∷ others) before after =
+    (between : List ℕ → List (List ℕ)) × (octets : List ℕ) × (names name ≡ Some octets) × TakesMore before between name octets × TakesEach names others between after
 
 -- ---- the steps of reading
 
@@ -144,7 +164,7 @@ IsNoJob NoMemory tool file names = ⊤
 IsNoJob answer tool file names = ⊥
 
 -- a name is answered as not read only where a number of it rose
-abbrev pub ReadReason : Answer → State → State → Type 0
+abbrev pub ReadReason : Answer → PlaceState → PlaceState → Type 0
 ReadReason (OpenFault name) before after = Rose (before.opens name) (after.opens name) ⊎ Rose (before.reads name) (after.reads name)
 ReadReason (ConfigRefused name line cause) before after = ⊤
 ReadReason NoMemory before after = ⊤

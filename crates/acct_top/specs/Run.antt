@@ -3,7 +3,8 @@ use Rattle.std.specs.Prelude.{◌≡◌, ◌≢◌, ◌≤◌, ◌⊎◌, ⊤, �
 use Rattle.acct_types.specs.declared.datagram.Datagram.{Datagram}
 use Rattle.collect_core.specs.declared.job.Job.{Job}
 use Rattle.collect_core.specs.Audit.{audit_text}
-use Rattle.collect_core.specs.Due.{due, records_of}
+use Rattle.collect_core.specs.Course.{Course, unrouted}
+use Rattle.collect_core.specs.Due.{due, records_of, taken}
 use Rattle.collect_core.specs.Ends.{EndsPlugin, ForEachPlugin, PluginEnding}
 use Rattle.collect_core.specs.Most.{FULL}
 use Rattle.config_keys.specs.declared.plugin.PluginConfig.{PluginConfig}
@@ -14,12 +15,13 @@ use Rattle.outside_io.specs.declared.ends.OutEnd.TheVariants as out
 use Rattle.outside_io.specs.declared.ends.SideEnd.{SideEnd}
 use Rattle.outside_io.specs.declared.ends.SideEnd.TheVariants as side
 use Rattle.outside_io.specs.declared.input_fault.InputFault.TheVariants as fault
-use Rattle.plugin_work.specs.Sinks.{IsWritten, SinkState}
+use Rattle.plugin_work.specs.Sinks.{IsWritten}
+use Rattle.outside_io.specs.States.{SinkState}
 use Rattle.acct_top.specs.declared.answer.Answer.{Answer}
 use Rattle.acct_top.specs.declared.answer.Answer.TheVariants.{Done, OpenFault, NoMemory, WriteFault}
 use Rattle.acct_top.specs.Answers.{IsUnopened, side_answer}
 use Rattle.acct_top.specs.Conservation.{AreBegun, HoldsOutput, HoldsOutputButFor, HoldsText, flow_end, flows_of, next_output, start_of}
-use Rattle.acct_top.specs.State.{State}
+use Rattle.outside_io.specs.States.{PlaceState}
 
 -- ---- names
 
@@ -80,21 +82,21 @@ SaysEnd job octets rest side.Ended = (rest ≡ []) × (flow_end job octets ≡ s
 SaysEnd job octets rest (side.Fault fault.ReadFault) = length (records_of job (flows_of job octets)) ≤ FULL.records
 SaysEnd job octets rest end = (flow_end job octets ≡ end) × (flow_end job (octets ++ rest) ≡ end)
 
--- these octets were taken of the capture, and the flow side ended as they say
-pub record EndsAsTaken (job : Job) (capture taken : Option (List ℕ)) (octets : List ℕ) (flow : SideEnd) : Type 0 where
+-- these octets were taken of the capture, which was read once, and the flow side ended as they say
+pub record EndsAsTaken (job : Job) (capture : Option (List ℕ)) (taken_before taken_after : List (List ℕ)) (octets : List ℕ) (flow : SideEnd) : Type 0 where
   pub rest : List ℕ
   pub splits : capture ≡ Some (octets ++ rest)
-  pub taken_is : taken ≡ Some octets
+  pub taken_is : taken_after ≡ taken_before ++ octets ∷ []
   pub says : SaysEnd job octets rest flow
 
 -- A run took octets of a capture until its flow side ended so, and wrote what it owes of their datagrams to the sinks.
-pub record RunsOver (job : Job) (tells : Bool) (capture taken : Option (List ℕ)) (starts : List SinkState) (audit_start audit_sink : SinkState)
+pub record RunsOver (job : Job) (tells : Bool) (capture : Option (List ℕ)) (taken_before taken_after : List (List ℕ)) (starts : List SinkState) (audit_start audit_sink : SinkState)
     (flow : SideEnd) (endings : List PluginEnding) (audit_end : OutEnd) : Type 0 where
   pub octets : List ℕ
-  pub ends : IsTrue tells → EndsAsTaken job capture taken octets flow
-  pub plugins : ForEachPlugin (λ plugin start ending. EndsPlugin plugin (due job FULL plugin (flows_of job octets)) start ending) job.config.plugins starts endings
+  pub ends : IsTrue tells → EndsAsTaken job capture taken_before taken_after octets flow
+  pub plugins : ForEachPlugin (λ plugin start ending. EndsPlugin plugin (taken unrouted plugin (due job FULL unrouted plugin (flows_of job octets))) start ending) job.config.plugins starts endings
   pub plugins_in_memory : All (λ ending. ending.end ≢ out.Memory) endings
-  pub audit : IsWritten (audit_text job FULL (flows_of job octets)) audit_end audit_start audit_sink
+  pub audit : IsWritten (audit_text job FULL unrouted (flows_of job octets)) audit_end audit_start audit_sink
   pub audit_in_memory : audit_end ≢ out.Memory
 
 -- ---- closing
@@ -105,42 +107,42 @@ pub record IsClosed (risen : Type 0) (start text : List ℕ) (whole : Bool) (oct
   pub all : whole ≡ true → octets ≡ Some (start ++ text)
 
 -- What these plugins are owed of datagrams is written to their sinks, and their outputs have what they began with.
-pub record AreWritten (job : Job) (flows : List Datagram) (before now : State) (plugins : List PluginConfig) (starts : List SinkState) (endings : List PluginEnding) : Type 0 where
-  pub written : ForEachPlugin (λ plugin start ending. EndsPlugin plugin (due job FULL plugin flows) start ending) plugins starts endings
+pub record AreWritten (job : Job) (course : Course) (flows : List Datagram) (before now : PlaceState) (plugins : List PluginConfig) (starts : List SinkState) (endings : List PluginEnding) : Type 0 where
+  pub written : ForEachPlugin (λ plugin start ending. EndsPlugin plugin (taken course plugin (due job FULL course plugin flows)) start ending) plugins starts endings
   pub empty : All (λ start. start.held ≡ Some []) starts
   pub begun : All (λ plugin. now.names plugin.file ≡ Some (start_of before.names plugin)) plugins
   pub writes : (name : List ℕ) → before.writes name ≤ now.writes name
 
 -- the same of all plugins and the audit
-pub record IsRunWritten (job : Job) (flows : List Datagram) (before now : State) (starts : List SinkState) (endings : List PluginEnding) (audit_end : OutEnd) (audit_start audit_sink : SinkState) : Type 0 where
-  pub plugins : AreWritten job flows before now job.config.plugins starts endings
-  pub audit : IsWritten (audit_text job FULL flows) audit_end audit_start audit_sink
+pub record IsRunWritten (job : Job) (course : Course) (flows : List Datagram) (before now : PlaceState) (starts : List SinkState) (endings : List PluginEnding) (audit_end : OutEnd) (audit_start audit_sink : SinkState) : Type 0 where
+  pub plugins : AreWritten job course flows before now job.config.plugins starts endings
+  pub audit : IsWritten (audit_text job FULL course flows) audit_end audit_start audit_sink
   pub audit_empty : audit_start.held ≡ Some []
 
 -- Of the outputs of these plugins, in order, those before this name are whole, and writing or closing it failed.
-pub record IsFirstUnwritten (job : Job) (flows : List Datagram) (before after : State) (plugins : List PluginConfig) (name : List ℕ) : Type 0 where
+pub record IsFirstUnwritten (job : Job) (course : Course) (flows : List Datagram) (before after : PlaceState) (plugins : List PluginConfig) (name : List ℕ) : Type 0 where
   pub first : List PluginConfig
   pub others : List PluginConfig
   pub splits : plugins ≡ first ++ others
   pub which : name ≡ next_output job others
-  pub whole : All (HoldsOutput job flows before.names after.names) first
+  pub whole : All (HoldsOutput job course flows before.names after.names) first
   pub failed : Rose (before.writes name) (after.writes name)
 
 -- The outputs of these plugins were closed, and this is the first that isn't whole.
-pub record AreClosed (job : Job) (flows : List Datagram) (before after : State) (plugins : List PluginConfig) (unwritten : Option (List ℕ)) : Type 0 where
-  pub but_for : All (HoldsOutputButFor job flows before after) plugins
-  pub first : MatchOption unwritten (All (HoldsOutput job flows before.names after.names) plugins) (IsFirstUnwritten job flows before after plugins)
+pub record AreClosed (job : Job) (course : Course) (flows : List Datagram) (before after : PlaceState) (plugins : List PluginConfig) (unwritten : Option (List ℕ)) : Type 0 where
+  pub but_for : All (HoldsOutputButFor job course flows before after) plugins
+  pub first : MatchOption unwritten (All (HoldsOutput job course flows before.names after.names) plugins) (IsFirstUnwritten job course flows before after plugins)
 
 -- all outputs and the audit are whole
-pub record AreWhole (job : Job) (flows : List Datagram) (before after : Names) : Type 0 where
-  pub plugins : All (HoldsOutput job flows before after) job.config.plugins
-  pub audit : after job.config.acct_audit_file ≡ Some (audit_text job FULL flows)
+pub record AreWhole (job : Job) (course : Course) (flows : List Datagram) (before after : Names) : Type 0 where
+  pub plugins : All (HoldsOutput job course flows before after) job.config.plugins
+  pub audit : after job.config.acct_audit_file ≡ Some (audit_text job FULL course flows)
 
 -- all outputs and the audit were closed, and this is the first that isn't whole
-pub record IsRunClosed (job : Job) (flows : List Datagram) (before after : State) (unwritten : Option (List ℕ)) : Type 0 where
-  pub audit : HoldsText (Rose (before.writes job.config.acct_audit_file) (after.writes job.config.acct_audit_file)) [] (audit_text job FULL flows) (after.names job.config.acct_audit_file)
-  pub plugins : All (HoldsOutputButFor job flows before after) job.config.plugins
-  pub first : MatchOption unwritten (AreWhole job flows before.names after.names) (IsFirstUnwritten job flows before after job.config.plugins)
+pub record IsRunClosed (job : Job) (course : Course) (flows : List Datagram) (before after : PlaceState) (unwritten : Option (List ℕ)) : Type 0 where
+  pub audit : HoldsText (Rose (before.writes job.config.acct_audit_file) (after.writes job.config.acct_audit_file)) [] (audit_text job FULL course flows) (after.names job.config.acct_audit_file)
+  pub plugins : All (HoldsOutputButFor job course flows before after) job.config.plugins
+  pub first : MatchOption unwritten (AreWhole job course flows before.names after.names) (IsFirstUnwritten job course flows before after job.config.plugins)
 
 -- ---- the answer
 

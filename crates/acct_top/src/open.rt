@@ -2,12 +2,11 @@
 
 ghost use Rattle.std.specs.Prelude.{◌≡◌, ◌≢◌, ◌⊎◌, ◌+◌, [], List as Sequence, ℕ, All, length, Some, IsTrue, IsSome, IfOk, OnOk, IfErr, OnErr};
 ghost use Rattle.outside_io.specs.Names.{begun, Puts};
-ghost use Rattle.plugin_work.specs.Sinks.{state_of as sink_state};
 ghost use Rattle.acct_top.specs.Answers.{JobReason};
 ghost use Rattle.acct_top.specs.Conservation.{KeepsOthers, begin_of};
 ghost use Rattle.acct_top.specs.Job.{IsReplay, capture_of};
 ghost use Rattle.acct_top.specs.Run.{AreApart, AreBegunAll, IsNewSink, IsOutputFault, IsOpenFault, KeepsAllBut};
-ghost use Rattle.acct_top.specs.State.{NoneFell, state_of};
+ghost use Rattle.outside_io.specs.States.{NoneFell};
 
 use crate::Answer;
 use acct_types::{List, NoMemory, Text};
@@ -44,15 +43,13 @@ fn open_fault(fault: IoFault, name: &Text) -> Answer
 }
 
 fn open_output<P: Place>(place: &mut P, name: &Text, begin: Begin) -> Result<P::Out, Answer>
-    ensures opened { IfOk result (λ out. IsNewSink P.tells (sink_state P.Out.held P.Out.faults out)) }
-    ensures begun { IsTrue P.tells → OnOk result (Puts (P.names place.old) (P.names place.new) name.now (Some (begun begin (P.names place.old) name.now))) }
-    ensures unopened { IsTrue P.tells → OnErr result (P.names place.new ≡ P.names place.old) }
+    ensures opened { IfOk result (λ out. IsNewSink P.tells (P.Out.state out)) }
+    ensures begun { IsTrue P.tells → OnOk result (Puts (P.state place.old).names (P.state place.new).names name.now (Some (begun begin (P.state place.old).names name.now))) }
+    ensures unopened { IsTrue P.tells → OnErr result ((P.state place.new).names ≡ (P.state place.old).names) }
     ensures fault { IfErr result (λ answer. (answer ≡ Answer.NoMemory) ⊎ (answer ≡ Answer.OpenFault name.now)) }
-    ensures reason { IfErr result (λ answer. JobReason answer
-        (state_of P.names P.taken P.open_faults P.read_faults P.write_faults place.old)
-        (state_of P.names P.taken P.open_faults P.read_faults P.write_faults place.new)) }
-    ensures none_fell { NoneFell (state_of P.names P.taken P.open_faults P.read_faults P.write_faults place.old)
-        (state_of P.names P.taken P.open_faults P.read_faults P.write_faults place.new) }
+    ensures reason { (job : Job) → IfErr result (λ answer. JobReason answer job (P.state place.old) (P.state place.new)) }
+    ensures taken { IsTrue P.tells → (P.state place.new).taken ≡ (P.state place.old).taken }
+    ensures none_fell { NoneFell (P.state place.old) (P.state place.new) }
 {
     match place.open_out(name, begin) {
         Ok(out) => Ok(out),
@@ -67,11 +64,10 @@ fn close_empty<P: Place>(
     begin: Begin,
     out: P::Out,
 ) -> Result<(), NoMemory>
-    ensures begun { IsTrue P.tells → P.Out.held out ≡ Some [] → OnOk result (Puts (P.names place.old) (P.names place.new) name.now
-        (Some (begun begin (P.names place.old) name.now))) }
-    ensures others { IsTrue P.tells → (other : Sequence ℕ) → other ≢ name.now → P.names place.new other ≡ P.names place.old other }
-    ensures none_fell { NoneFell (state_of P.names P.taken P.open_faults P.read_faults P.write_faults place.old)
-        (state_of P.names P.taken P.open_faults P.read_faults P.write_faults place.new) }
+    ensures begun { IsTrue P.tells → (P.Out.state out).held ≡ Some [] → OnOk result (Puts (P.state place.old).names (P.state place.new).names name.now
+        (Some (begun begin (P.state place.old).names name.now))) }
+    ensures others { IsTrue P.tells → (other : Sequence ℕ) → other ≢ name.now → (P.state place.new).names other ≡ (P.state place.old).names other }
+    ensures none_fell { NoneFell (P.state place.old) (P.state place.new) }
 {
     match place.close_out(name, begin, out) {
         Ok(()) => Ok(()),
@@ -89,19 +85,17 @@ fn open_outputs<P: Place>(
     outs: &mut List<P::Out>,
 ) -> Result<P::Out, Answer>
     requires apart { AreApart job.now.config.acct_audit_file plugins.now }
-    ensures audit { IfOk result (λ audit. IsNewSink P.tells (sink_state P.Out.held P.Out.faults audit)) }
+    ensures audit { IfOk result (λ audit. IsNewSink P.tells (P.Out.state audit)) }
     ensures one_each { OnOk result (length outs.new ≡ length outs.old + length plugins.now) }
-    ensures opened { All (λ out. IsNewSink P.tells (sink_state P.Out.held P.Out.faults out)) outs.old
-        → OnOk result (All (λ out. IsNewSink P.tells (sink_state P.Out.held P.Out.faults out)) outs.new) }
+    ensures opened { All (λ out. IsNewSink P.tells (P.Out.state out)) outs.old
+        → OnOk result (All (λ out. IsNewSink P.tells (P.Out.state out)) outs.new) }
     ensures none_opened { OnErr result (outs.new ≡ outs.old) }
-    ensures begun { IsTrue P.tells → OnOk result (AreBegunAll job.now plugins.now (P.names place.old) (P.names place.new)) }
-    ensures unopened { IsTrue P.tells → IfErr result (λ answer. IsOutputFault job.now plugins.now answer (P.names place.old) (P.names place.new)) }
-    ensures others { IsTrue P.tells → KeepsAllBut job.now plugins.now (P.names place.old) (P.names place.new) }
-    ensures reason { IfErr result (λ answer. JobReason answer
-        (state_of P.names P.taken P.open_faults P.read_faults P.write_faults place.old)
-        (state_of P.names P.taken P.open_faults P.read_faults P.write_faults place.new)) }
-    ensures none_fell { NoneFell (state_of P.names P.taken P.open_faults P.read_faults P.write_faults place.old)
-        (state_of P.names P.taken P.open_faults P.read_faults P.write_faults place.new) }
+    ensures begun { IsTrue P.tells → OnOk result (AreBegunAll job.now plugins.now (P.state place.old).names (P.state place.new).names) }
+    ensures unopened { IsTrue P.tells → IfErr result (λ answer. IsOutputFault job.now plugins.now answer (P.state place.old).names (P.state place.new).names) }
+    ensures others { IsTrue P.tells → KeepsAllBut job.now plugins.now (P.state place.old).names (P.state place.new).names }
+    ensures reason { IfErr result (λ answer. JobReason answer job.now (P.state place.old) (P.state place.new)) }
+    ensures taken { IsTrue P.tells → OnOk result ((P.state place.new).taken ≡ (P.state place.old).taken) }
+    ensures none_fell { NoneFell (P.state place.old) (P.state place.new) }
 {
     let [plugin, plugins @ ..] = plugins else {
         return open_output(place, &job.config.acct_audit_file, Begin::Anew);
@@ -136,20 +130,18 @@ pub fn open_all<P: Place>(
 ) -> Result<Opened<P::In, P::Out>, Answer>
     requires replay { IsReplay job.now }
     requires capture { capture.now ≡ capture_of job.now }
-    ensures input { IsTrue P.tells → IfOk result (λ opened. IsSome (P.names place.old capture.now)
-        × (P.In.left opened.input ≡ P.names place.old capture.now)) }
-    ensures fresh { IfOk result (λ opened. P.In.faults opened.input ≡ 0) }
+    ensures input { IsTrue P.tells → IfOk result (λ opened. IsSome ((P.state place.old).names capture.now)
+        × ((P.In.state opened.input).left ≡ (P.state place.old).names capture.now)) }
+    ensures fresh { IfOk result (λ opened. (P.In.state opened.input).faults ≡ 0) }
     ensures one_each { IfOk result (λ opened. length opened.outs ≡ length job.now.config.plugins) }
-    ensures outputs { IfOk result (λ opened. All (λ out. IsNewSink P.tells (sink_state P.Out.held P.Out.faults out)) opened.outs) }
-    ensures audit { IfOk result (λ opened. IsNewSink P.tells (sink_state P.Out.held P.Out.faults opened.audit)) }
-    ensures begun { IsTrue P.tells → OnOk result (AreBegunAll job.now job.now.config.plugins (P.names place.old) (P.names place.new)) }
-    ensures unopened { IsTrue P.tells → IfErr result (λ answer. IsOpenFault job.now answer (P.names place.old) (P.names place.new)) }
-    ensures others { IsTrue P.tells → KeepsOthers job.now (P.names place.old) (P.names place.new) }
-    ensures reason { IfErr result (λ answer. JobReason answer
-        (state_of P.names P.taken P.open_faults P.read_faults P.write_faults place.old)
-        (state_of P.names P.taken P.open_faults P.read_faults P.write_faults place.new)) }
-    ensures none_fell { NoneFell (state_of P.names P.taken P.open_faults P.read_faults P.write_faults place.old)
-        (state_of P.names P.taken P.open_faults P.read_faults P.write_faults place.new) }
+    ensures outputs { IfOk result (λ opened. All (λ out. IsNewSink P.tells (P.Out.state out)) opened.outs) }
+    ensures audit { IfOk result (λ opened. IsNewSink P.tells (P.Out.state opened.audit)) }
+    ensures begun { IsTrue P.tells → OnOk result (AreBegunAll job.now job.now.config.plugins (P.state place.old).names (P.state place.new).names) }
+    ensures unopened { IsTrue P.tells → IfErr result (λ answer. IsOpenFault job.now answer (P.state place.old).names (P.state place.new).names) }
+    ensures others { IsTrue P.tells → KeepsOthers job.now (P.state place.old).names (P.state place.new).names }
+    ensures reason { IfErr result (λ answer. JobReason answer job.now (P.state place.old) (P.state place.new)) }
+    ensures taken { IsTrue P.tells → OnOk result ((P.state place.new).taken ≡ (P.state place.old).taken) }
+    ensures none_fell { NoneFell (P.state place.old) (P.state place.new) }
 {
     let input = match place.open_in(capture) {
         Ok(input) => input,

@@ -58,7 +58,18 @@ const BOTH_WAYS: &[u8] = b"SRC_IP,DST_IP,SRC_PORT,DST_PORT,PROTOCOL,PACKETS,BYTE
 10.0.0.1,10.0.0.2,1024,80,6,10,840\n\
 10.0.0.2,10.0.0.1,1024,80,6,10,840\n";
 
-static TEMPLATES: [Case; 6] = [
+// IPFIX: template 300 with an interface name of variable length, two IPv4 addresses, packets and bytes of eight octets; and a record whose
+// name has 255 octets in the long form
+const NAMED: &[u8] =
+    b"\0\x0a\x01\x4d\0\0\0\0\0\0\0\0\0\0\0\0\0\x02\0\x1c\x01\x2c\0\x05\0\x52\xff\xff\
+\0\x08\0\x04\0\x0c\0\x04\0\x02\0\x08\0\x01\0\x08\x01\x2c\x01\x21\xff\0\xff";
+
+const NAME: &[u8] = &[b'a'; 255];
+
+const BEHIND_THE_NAME: &[u8] =
+    b"\x0a\0\0\x01\x0a\0\0\x02\0\0\0\0\0\0\0\x0a\0\0\0\0\0\0\x03\x48\0\0\0";
+
+static TEMPLATES: [Case; 7] = [
     // Data before its template, and behind it.
     (
         Given {
@@ -153,12 +164,31 @@ static TEMPLATES: [Case; 6] = [
             ..DONE
         },
     ),
+    // A field in the long form.
+    (
+        Given {
+            capture: &[Part::Of(1, &[NAMED, NAME, BEHIND_THE_NAME])],
+            ..COUNTED
+        },
+        Wanted {
+            files: &[
+                (
+                    P,
+                    Some(
+                        b"SRC_IP,DST_IP,SRC_PORT,DST_PORT,PROTOCOL,PACKETS,BYTES\n10.0.0.1,10.0.0.2,0,0,0,10,840\n",
+                    ),
+                ),
+                (AUDIT, Some(b"end 1 0 1 0 0 0\n")),
+            ],
+            ..DONE
+        },
+    ),
 ];
 
 #[test]
-fn templates_of_version_9_hold_from_their_place_on(rt: HostRuntime) -> Result<(), Fail> {
+fn templates_hold_from_their_place_on(rt: HostRuntime) -> Result<(), Fail> {
     let found = first_difference(rt.alloc(), &TEMPLATES)?;
-    assert_eq!(rt; found, (6, b"none".as_slice()));
+    assert_eq!(rt; found, (7, b"none".as_slice()));
     Ok(())
 }
 
@@ -332,7 +362,59 @@ const TWO_SAMPLES: &[u8] = b"\0\0\0\x05\0\0\0\x01\xc0\0\x02\x01\0\0\0\0\0\0\0\0\
 \0\0\0\0\0\0\0\0\0\0\0\0\x81\0\0\x64\x86\xdd\x60\0\0\0\0\x3c\x11\x40\
 \x20\x01\x0d\xb8\0\0\0\0\0\0\0\0\0\0\0\x01\x20\x01\x0d\xb8\0\0\0\0\0\0\0\0\0\0\0\x02\0\0\0\0\0\0\0\0\0\0";
 
-static TOOLS: [Case; 4] = [
+// an expanded flow sample, one of 100 packets, with a record of a sampled IPv4 packet
+const SAMPLED_IPV4: &[u8] = b"\0\0\0\x05\0\0\0\x01\xc0\0\x02\x01\0\0\0\0\0\0\0\0\0\0\0\0\0\0\0\x01\
+\0\0\0\x03\0\0\0\x54\0\0\0\0\0\0\0\0\0\0\0\0\0\0\0\x64\0\0\0\0\0\0\0\0\0\0\0\0\0\0\0\0\0\0\0\0\0\0\0\0\0\0\0\x01\
+\0\0\0\x03\0\0\0\x20\0\0\x05\xdc\0\0\0\x11\x0a\0\0\x01\x0a\0\0\x02\0\0\0\0\0\0\0\0\0\0\0\0\0\0\0\0";
+
+// a flow sample of an ARP packet
+const SAMPLED_ARP: &[u8] = b"\0\0\0\x05\0\0\0\x01\xc0\0\x02\x01\0\0\0\0\0\0\0\0\0\0\0\0\0\0\0\x01\
+\0\0\0\x01\0\0\0\x48\0\0\0\0\0\0\0\0\0\0\0\x64\0\0\0\0\0\0\0\0\0\0\0\0\0\0\0\0\0\0\0\x01\
+\0\0\0\x01\0\0\0\x20\0\0\0\x01\0\0\0\x40\0\0\0\x04\0\0\0\x10\
+\0\0\0\0\0\0\0\0\0\0\0\0\x08\x06\0\0";
+
+static TOOLS: [Case; 6] = [
+    (
+        Given {
+            tool: Tool::Sfacctd,
+            config: &[
+                HEAD,
+                b"aggregate[p]: src_host, dst_host, proto\n",
+                b"sfacctd_renormalize: true\n",
+            ],
+            capture: &[Part::Of(1, &[SAMPLED_IPV4])],
+            ..EMPTY
+        },
+        Wanted {
+            line: b"sfacctd: done\n",
+            files: &[
+                (
+                    P,
+                    Some(
+                        b"SRC_IP,DST_IP,PROTOCOL,PACKETS,BYTES\n10.0.0.1,10.0.0.2,17,100,150000\n",
+                    ),
+                ),
+                (AUDIT, Some(b"end 1 0 1 0 0 0\n")),
+            ],
+            ..DONE
+        },
+    ),
+    (
+        Given {
+            tool: Tool::Sfacctd,
+            config: &[HEAD, b"aggregate[p]: vlan, src_host, dst_host, proto\n"],
+            capture: &[Part::Of(1, &[SAMPLED_ARP])],
+            ..EMPTY
+        },
+        Wanted {
+            line: b"sfacctd: done\n",
+            files: &[
+                (P, Some(b"")),
+                (AUDIT, Some(b"notice 1 1 not-ip\nend 1 0 0 0 0 0\n")),
+            ],
+            ..DONE
+        },
+    ),
     (
         Given {
             tool: Tool::Sfacctd,
@@ -413,6 +495,6 @@ static TOOLS: [Case; 4] = [
 #[test]
 fn each_tool_reads_its_own_protocols(rt: HostRuntime) -> Result<(), Fail> {
     let found = first_difference(rt.alloc(), &TOOLS)?;
-    assert_eq!(rt; found, (4, b"none".as_slice()));
+    assert_eq!(rt; found, (6, b"none".as_slice()));
     Ok(())
 }

@@ -8,7 +8,7 @@ ghost use Rattle.acct_top.specs.Job.{IsJobOf, built_config, is_unbuilt};
 use acct_types::Text;
 use collect_core::{Job, collects};
 use config_keys::{Config, ConfigCause, ConfigFault, Tool, has_output, read_config};
-use pretag_map::{SamplingMap, TagMap};
+use pretag_map::{AgentMap, SamplingMap, TagMap};
 use std::alloc::Global;
 
 // Whether a configuration asks for something that isn't built yet.
@@ -50,11 +50,12 @@ pub fn read_built(
 }
 
 /// The job of a configuration and of what its maps say, where there is a capture to replay.
-pub fn job_of(config: Config, tags: TagMap, samplings: SamplingMap) -> Option<Job>
+pub fn job_of(config: Config, tags: TagMap, agents: AgentMap, samplings: SamplingMap) -> Option<Job>
     requires built { is_unbuilt (says config) ≡ false }
     requires apart { shares_name (says config) ≡ false }
     ensures job { IfSome result (λ job. IsJobOf job (says config)) }
     ensures tags { IfSome result (λ job. job.tags ≡ tags) }
+    ensures agents { IfSome result (λ job. job.agents ≡ agents) }
     ensures samplings { IfSome result (λ job. job.samplings ≡ samplings) }
     ensures none { IfNone result (config.acct_flow_capture ≡ None) }
 {
@@ -64,6 +65,7 @@ pub fn job_of(config: Config, tags: TagMap, samplings: SamplingMap) -> Option<Jo
     Some(Job {
         config,
         tags,
+        agents,
         samplings,
     })
 }

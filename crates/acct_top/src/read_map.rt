@@ -1,8 +1,8 @@
 //! The maps that a configuration names.
 
-ghost use Rattle.std.specs.Prelude.{◌≡◌, ◌≤◌, List as Sequence, ℕ, length, Result, IsTrue, IfOk, IfErr};
-ghost use Rattle.acct_top.specs.Reading.{HasMapCause, IsMap, IsMapReading, IsMapRefusal, IsRefusalOf, MOST_TEXT, ReadReason, Says};
-ghost use Rattle.acct_top.specs.State.{OnlyRead, state_of};
+ghost use Rattle.std.specs.Prelude.{◌≡◌, ◌≤◌, List as Sequence, ℕ, length, Result, IsTrue, IfOk, IfErr, OnOk, ◌∷◌, []};
+ghost use Rattle.acct_top.specs.Reading.{TakesEach, named, HasMapCause, IsMap, IsMapReading, IsMapRefusal, IsRefusalOf, MOST_TEXT, ReadReason, Says};
+ghost use Rattle.outside_io.specs.States.{OnlyRead};
 ghost use Rattle.pretag_map.specs.declared.fault.MapFault.{MapFault};
 
 use crate::read_text::{read_text, refused};
@@ -63,15 +63,12 @@ impl Map for SamplingMap {
 }
 
 fn open_map<P: Place, M: Map>(alloc: Global, place: &mut P, name: &Text) -> Result<M, Answer>
-    ensures map { IsTrue P.tells → IfOk result (λ map. Says M.said (P.names place.old) name.now map) }
-    ensures refused { IsTrue P.tells → IfErr result (λ answer. IsRefusalOf (HasMapCause M.said) (P.names place.old) name.now answer) }
-    ensures reason { IfErr result (λ answer. ReadReason answer
-        (state_of P.names P.taken P.open_faults P.read_faults P.write_faults place.old)
-        (state_of P.names P.taken P.open_faults P.read_faults P.write_faults place.new)) }
-    ensures names { IsTrue P.tells → P.names place.new ≡ P.names place.old }
-    ensures only_read { OnlyRead
-        (state_of P.names P.taken P.open_faults P.read_faults P.write_faults place.old)
-        (state_of P.names P.taken P.open_faults P.read_faults P.write_faults place.new) }
+    ensures map { IsTrue P.tells → IfOk result (λ map. Says M.said (P.state place.old).names name.now map) }
+    ensures refused { IsTrue P.tells → IfErr result (λ answer. IsRefusalOf (HasMapCause M.said) (P.state place.old).names name.now answer) }
+    ensures reason { IfErr result (λ answer. ReadReason answer (P.state place.old) (P.state place.new)) }
+    ensures names { IsTrue P.tells → (P.state place.new).names ≡ (P.state place.old).names }
+    ensures taken { IsTrue P.tells → OnOk result (TakesEach (P.state place.old).names (name.now ∷ []) (P.state place.old).taken (P.state place.new).taken) }
+    ensures only_read { OnlyRead (P.state place.old) (P.state place.new) }
 {
     let text = match read_text(alloc, place, name) {
         Ok(text) => text,
@@ -90,15 +87,12 @@ pub fn map_of<P: Place, M: Map>(
     place: &mut P,
     name: &Option<Text>,
 ) -> Result<M, Answer>
-    ensures map { IsTrue P.tells → IfOk result (λ map. IsMap M.said M.nothing (P.names place.old) name.now map) }
-    ensures refused { IsTrue P.tells → IfErr result (λ answer. IsMapRefusal M.said (P.names place.old) name.now answer) }
-    ensures reason { IfErr result (λ answer. ReadReason answer
-        (state_of P.names P.taken P.open_faults P.read_faults P.write_faults place.old)
-        (state_of P.names P.taken P.open_faults P.read_faults P.write_faults place.new)) }
-    ensures names { IsTrue P.tells → P.names place.new ≡ P.names place.old }
-    ensures only_read { OnlyRead
-        (state_of P.names P.taken P.open_faults P.read_faults P.write_faults place.old)
-        (state_of P.names P.taken P.open_faults P.read_faults P.write_faults place.new) }
+    ensures map { IsTrue P.tells → IfOk result (λ map. IsMap M.said M.nothing (P.state place.old).names name.now map) }
+    ensures refused { IsTrue P.tells → IfErr result (λ answer. IsMapRefusal M.said (P.state place.old).names name.now answer) }
+    ensures reason { IfErr result (λ answer. ReadReason answer (P.state place.old) (P.state place.new)) }
+    ensures names { IsTrue P.tells → (P.state place.new).names ≡ (P.state place.old).names }
+    ensures taken { IsTrue P.tells → OnOk result (TakesEach (P.state place.old).names (named name.now) (P.state place.old).taken (P.state place.new).taken) }
+    ensures only_read { OnlyRead (P.state place.old) (P.state place.new) }
 {
     match name {
         None => Ok(M::empty(alloc)),

@@ -1,8 +1,8 @@
 //! The texts that are read before a run.
 
 ghost use Rattle.std.specs.Prelude.{◌≡◌, ◌⊎◌, ◌≤◌, length, Some, IsTrue, IfOk, IfErr};
-ghost use Rattle.acct_top.specs.Reading.{HasTextCause, IsRefusalOf, MOST_TEXT, ReadReason};
-ghost use Rattle.acct_top.specs.State.{OnlyRead, state_of};
+ghost use Rattle.acct_top.specs.Reading.{TakesMore, HasTextCause, IsRefusalOf, MOST_TEXT, ReadReason};
+ghost use Rattle.outside_io.specs.States.{OnlyRead};
 
 use crate::{Answer, AnyCause};
 use acct_types::{NoMemory, Octets, Text};
@@ -34,16 +34,13 @@ fn unread(name: &Text) -> Answer
 
 /// The text of a name, of at most 1,048,576 octets.
 pub fn read_text<P: Place>(alloc: Global, place: &mut P, name: &Text) -> Result<Octets, Answer>
-    ensures text { IsTrue P.tells → IfOk result (λ text. P.names place.old name.now ≡ Some text) }
+    ensures text { IsTrue P.tells → IfOk result (λ text. (P.state place.old).names name.now ≡ Some text) }
     ensures short { IfOk result (λ text. length text ≤ MOST_TEXT) }
-    ensures refused { IsTrue P.tells → IfErr result (λ answer. IsRefusalOf HasTextCause (P.names place.old) name.now answer) }
-    ensures reason { IfErr result (λ answer. ReadReason answer
-        (state_of P.names P.taken P.open_faults P.read_faults P.write_faults place.old)
-        (state_of P.names P.taken P.open_faults P.read_faults P.write_faults place.new)) }
-    ensures names { IsTrue P.tells → P.names place.new ≡ P.names place.old }
-    ensures only_read { OnlyRead
-        (state_of P.names P.taken P.open_faults P.read_faults P.write_faults place.old)
-        (state_of P.names P.taken P.open_faults P.read_faults P.write_faults place.new) }
+    ensures refused { IsTrue P.tells → IfErr result (λ answer. IsRefusalOf HasTextCause (P.state place.old).names name.now answer) }
+    ensures reason { IfErr result (λ answer. ReadReason answer (P.state place.old) (P.state place.new)) }
+    ensures names { IsTrue P.tells → (P.state place.new).names ≡ (P.state place.old).names }
+    ensures taken { IsTrue P.tells → IfOk result (λ text. TakesMore (P.state place.old).taken (P.state place.new).taken name.now text) }
+    ensures only_read { OnlyRead (P.state place.old) (P.state place.new) }
 {
     let text = match read_name(alloc, place, name, MOST_TEXT + 1) {
         Ok(text) => text,

@@ -2,21 +2,21 @@
 
 ghost use Rattle.std.specs.Prelude.{◌≡◌, ◌⊎◌, length, map, option_map, true, IsTrue, IsSome, IfOk};
 ghost use Rattle.outside_io.specs.Causes.{Rose};
-ghost use Rattle.plugin_work.specs.Sinks.{state_of as sink_state};
+ghost use Rattle.collect_core.specs.Ends.{ending_of};
 ghost use Rattle.acct_top.specs.Answers.{HoldsOfJob, JobReason};
 ghost use Rattle.acct_top.specs.Conservation.{KeepsOthers};
 ghost use Rattle.acct_top.specs.Job.{IsReplay};
 ghost use Rattle.acct_top.specs.Run.{IsAnswer, RunsOver};
-ghost use Rattle.acct_top.specs.State.{NoneFell, state_of};
+ghost use Rattle.outside_io.specs.States.{NoneFell};
 
 use crate::Answer;
 use crate::answer::side_answer;
 use crate::close::close_all;
 use crate::open::{Opened, open_all};
-use acct_types::{List, NoMemory, Text};
+use acct_types::{Hashing, List, NoMemory, Text};
 use capture_file::laws::{flows_hand_out_what_they_took, written_datagrams_fit_the_limit};
 use capture_file::{CaptureFlows, CaptureReader};
-use collect_core::{Job, Limits, RunEnd, run_alone};
+use collect_core::{Job, Limits, RunEnd, run_alone, runs_without_routes_are_lawful};
 use outside_io::{InputFault, NoRoutes, Place, SideEnd};
 use std::alloc::Global;
 
@@ -36,6 +36,7 @@ fn write_fault(name: &Text) -> Answer
 // Runs over the capture, and closes it.
 fn run_over<P: Place>(
     alloc: Global,
+    hashing: Hashing,
     place: &mut P,
     job: &Job,
     capture: &Text,
@@ -45,16 +46,16 @@ fn run_over<P: Place>(
 ) -> Result<RunEnd<P::Out>, NoMemory>
     requires replay { IsReplay job.now }
     requires one_each { length outs ≡ length job.now.config.plugins }
-    requires left { IsTrue P.tells → IsSome (P.names place.old capture.now) × (P.In.left input ≡ P.names place.old capture.now) }
-    requires fresh { P.In.faults input ≡ 0 }
-    ensures run { IfOk result (λ end. RunsOver job.now P.tells (P.names place.old capture.now) (P.taken place.new capture.now)
-        (map (sink_state P.Out.held P.Out.faults) outs) (sink_state P.Out.held P.Out.faults audit.old) (sink_state P.Out.held P.Out.faults audit.new)
-        end.flow (map (λ plugin. record { sink = sink_state P.Out.held P.Out.faults plugin.out; end = plugin.end; purged = plugin.purged }) end.plugins) end.audit) }
+    requires left { IsTrue P.tells → IsSome ((P.state place.old).names capture.now) × ((P.In.state input).left ≡ (P.state place.old).names capture.now) }
+    requires fresh { (P.In.state input).faults ≡ 0 }
+    ensures run { IfOk result (λ end. RunsOver job.now P.tells ((P.state place.old).names capture.now)
+        ((P.state place.old).taken capture.now) ((P.state place.new).taken capture.now)
+        (map P.Out.state outs) (P.Out.state audit.old) (P.Out.state audit.new)
+        end.flow (map (ending_of P.Out.state) end.plugins) end.audit) }
     ensures failed { IfOk result (λ end. end.flow ≡ SideEnd.Fault InputFault.ReadFault
-        → Rose (P.read_faults place.old capture.now) (P.read_faults place.new capture.now)) }
-    ensures names { IsTrue P.tells → P.names place.new ≡ P.names place.old }
-    ensures none_fell { NoneFell (state_of P.names P.taken P.open_faults P.read_faults P.write_faults place.old)
-        (state_of P.names P.taken P.open_faults P.read_faults P.write_faults place.new) }
+        → Rose ((P.state place.old).reads capture.now) ((P.state place.new).reads capture.now)) }
+    ensures names { IsTrue P.tells → (P.state place.new).names ≡ (P.state place.old).names }
+    ensures none_fell { NoneFell (P.state place.old) (P.state place.new) }
 {
     flows_hand_out_what_they_took::<P::In>();
     written_datagrams_fit_the_limit();
@@ -63,6 +64,7 @@ fn run_over<P: Place>(
     let mut routes = NoRoutes::new(alloc);
     let end = run_alone(
         alloc,
+        hashing,
         job,
         &mut flows,
         &mut routes,
@@ -89,25 +91,21 @@ fn answer_of(flow: SideEnd, unwritten: Option<&Text>) -> Answer
 }
 
 /// Does the job.
-pub fn run_job<P: Place>(alloc: Global, place: &mut P, job: &Job) -> Answer
+pub fn run_job<P: Place>(alloc: Global, hashing: Hashing, place: &mut P, job: &Job) -> Answer
     requires replay { IsReplay job.now }
-    ensures holds { IsTrue P.tells → HoldsOfJob result job.now
-        (state_of P.names P.taken P.open_faults P.read_faults P.write_faults place.old)
-        (state_of P.names P.taken P.open_faults P.read_faults P.write_faults place.new) }
-    ensures others { IsTrue P.tells → KeepsOthers job.now (P.names place.old) (P.names place.new) }
-    ensures reason { JobReason result
-        (state_of P.names P.taken P.open_faults P.read_faults P.write_faults place.old)
-        (state_of P.names P.taken P.open_faults P.read_faults P.write_faults place.new) }
-    ensures none_fell { NoneFell (state_of P.names P.taken P.open_faults P.read_faults P.write_faults place.old)
-        (state_of P.names P.taken P.open_faults P.read_faults P.write_faults place.new) }
+    ensures holds { IsTrue P.tells → HoldsOfJob result job.now (P.state place.old) (P.state place.new) }
+    ensures others { IsTrue P.tells → KeepsOthers job.now (P.state place.old).names (P.state place.new).names }
+    ensures reason { JobReason result job.now (P.state place.old) (P.state place.new) }
+    ensures none_fell { NoneFell (P.state place.old) (P.state place.new) }
 {
+    runs_without_routes_are_lawful();
     let capture = job.config.acct_flow_capture.as_ref().unwrap();
     let Opened { input, outs, audit } = match open_all(alloc, place, job, capture) {
         Ok(opened) => opened,
         Err(answer) => return answer,
     };
     let mut audit = audit;
-    let Ok(end) = run_over(alloc, place, job, capture, input, outs, &mut audit) else {
+    let Ok(end) = run_over(alloc, hashing, place, job, capture, input, outs, &mut audit) else {
         return Answer::NoMemory;
     };
     let Ok(unwritten) = close_all(place, job, end.plugins, audit, end.audit) else {

@@ -132,8 +132,8 @@ fn answer_line(alloc: Global, tool: Tool, answer: &Answer) -> Result<Octets, NoM
 
 /// Says the line of an answer. Where that fails, no answer but Done changes.
 pub fn say_answer<S: Sink>(alloc: Global, tool: Tool, answer: Answer, say: &mut S) -> Answer
-    ensures answer { IsSaidAs answer result (S.faults say.old) (S.faults say.new) }
-    ensures said { SaysAnswer tool result (S.faults say.old) (S.faults say.new) (S.held say.old) (S.held say.new) }
+    ensures answer { IsSaidAs answer result (S.state say.old).faults (S.state say.new).faults }
+    ensures said { SaysAnswer tool result (S.state say.old).faults (S.state say.new).faults (S.state say.old).held (S.state say.new).held }
 {
     let Ok(line) = answer_line(alloc, tool, &answer) else {
         return Answer::NoMemory;

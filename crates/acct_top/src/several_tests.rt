@@ -195,7 +195,29 @@ const UNCUT: Wanted = Wanted {
     ..DONE
 };
 
-static WINDOWS: [Case; 10] = [
+const FIVE: &[u8] = b"aggregate[p]: src_host, dst_host, src_port, dst_port, proto\n";
+
+static WINDOWS: [Case; 11] = [
+    (
+        Given {
+            config: &[ONE_PRINT, INPUTS, FIVE],
+            capture: &[Part::From(59_999, &[1]), Part::From(60_000, &[1])],
+            ..EMPTY
+        },
+        Wanted {
+            files: &[
+                (
+                    P,
+                    Some(
+                        b"SRC_IP,DST_IP,SRC_PORT,DST_PORT,PROTOCOL,PACKETS,BYTES\n10.0.0.1,10.0.0.2,1024,80,6,10,840\n\
+SRC_IP,DST_IP,SRC_PORT,DST_PORT,PROTOCOL,PACKETS,BYTES\n10.0.0.1,10.0.0.2,1024,80,6,10,840\n",
+                    ),
+                ),
+                (AUDIT, Some(OF_TWO)),
+            ],
+            ..DONE
+        },
+    ),
     (
         Given {
             capture: &[Part::From(59_999, &[1]), Part::From(60_000, &[1])],
@@ -306,7 +328,7 @@ WINDOW,PACKETS,BYTES\n120000,10,840\n",
 #[test]
 fn windows_cut_by_moments_that_never_go_back(rt: HostRuntime) -> Result<(), Fail> {
     let found = first_difference(rt.alloc(), &WINDOWS)?;
-    assert_eq!(rt; found, (10, b"none".as_slice()));
+    assert_eq!(rt; found, (11, b"none".as_slice()));
     Ok(())
 }
 
@@ -318,7 +340,42 @@ const UNALIKE: Given = Given {
     ..EMPTY
 };
 
-static MEMORY: [Case; 5] = [
+static MEMORY: [Case; 6] = [
+    (
+        Given {
+            config: &[
+                b"plugins: print[p], memory[m]\n\
+aggregate[m]: proto\n\
+print_output[p]: csv\n\
+print_output_file[p]: p.csv\n\
+print_output_file_append: true\n\
+acct_memory_file[m]: m.txt\n",
+                FIVE,
+                INPUTS,
+            ],
+            capture: &[Part::From(1_000, &[1])],
+            files: &[(M, b"old")],
+            ..EMPTY
+        },
+        Wanted {
+            files: &[
+                (
+                    P,
+                    Some(
+                        b"SRC_IP,DST_IP,SRC_PORT,DST_PORT,PROTOCOL,PACKETS,BYTES\n10.0.0.1,10.0.0.2,1024,80,6,10,840\n",
+                    ),
+                ),
+                (
+                    M,
+                    Some(
+                        b"PROTOCOL  PACKETS               BYTES\n6         10                    840\n",
+                    ),
+                ),
+                (AUDIT, Some(b"end 1 0 1 0 0 0\n")),
+            ],
+            ..DONE
+        },
+    ),
     (
         UNALIKE,
         Wanted {
@@ -409,7 +466,7 @@ static MEMORY: [Case; 5] = [
 #[test]
 fn a_memory_plugin_writes_one_purge_anew(rt: HostRuntime) -> Result<(), Fail> {
     let found = first_difference(rt.alloc(), &MEMORY)?;
-    assert_eq!(rt; found, (5, b"none".as_slice()));
+    assert_eq!(rt; found, (6, b"none".as_slice()));
     Ok(())
 }
 
@@ -592,7 +649,19 @@ static UNWRITTEN: [Case; 9] = [
     ),
 ];
 
-static UNCLOSED: [Case; 9] = [
+static UNCLOSED: [Case; 10] = [
+    // An output without text, too, is closed, and that may fail.
+    (
+        Given {
+            capture: &[],
+            closes: &[1],
+            ..ALIKE
+        },
+        Wanted {
+            files: &[P_OLD, Q_OLD, (AUDIT, Some(OF_NONE))],
+            ..P_UNWRITTEN
+        },
+    ),
     // A close that fails leaves the old octets.
     (
         Given {
@@ -687,7 +756,7 @@ fn the_first_output_that_failed_is_named(rt: HostRuntime) -> Result<(), Fail> {
     let found = first_difference(rt.alloc(), &UNWRITTEN)?;
     assert_eq!(rt; found, (9, b"none".as_slice()));
     let found = first_difference(rt.alloc(), &UNCLOSED)?;
-    assert_eq!(rt; found, (9, b"none".as_slice()));
+    assert_eq!(rt; found, (10, b"none".as_slice()));
     Ok(())
 }
 

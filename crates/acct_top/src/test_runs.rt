@@ -1,7 +1,7 @@
 //! Runs over a place in memory, for tests: what is given, and in what the outcome differs from what is wanted.
 
 use crate::{account_alone, status};
-use acct_types::{List, NoMemory, Octets, Text};
+use acct_types::{Hashing, List, NoMemory, Octets, Text};
 use config_keys::Tool;
 use outside_io::{MemoryPlace, MemorySink};
 use std::alloc::Global;
@@ -218,7 +218,14 @@ pub(crate) fn difference(
     let mut place = place(alloc, given)?;
     let words = words(alloc)?;
     let mut say = MemorySink::new(alloc, 64, List::new(alloc));
-    let answer = account_alone(alloc, given.tool, &words, &mut place, &mut say);
+    let answer = account_alone(
+        alloc,
+        Hashing::fixed(),
+        given.tool,
+        &words,
+        &mut place,
+        &mut say,
+    );
     if status(&answer) != wanted.status {
         return Ok(b"status");
     }

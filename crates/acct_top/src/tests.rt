@@ -1,5 +1,5 @@
 use crate::{Answer, AnyCause, BadCause, account_alone, account_in_memory, status};
-use acct_types::{List, NoMemory, Octets, Text};
+use acct_types::{Hashing, List, NoMemory, Octets, Text};
 use config_keys::{ConfigCause, Tool};
 use outside_io::{MemoryPlace, MemorySink};
 use std::alloc::Global;
@@ -275,7 +275,14 @@ fn difference(alloc: Global, before: &Before, after: &After) -> Result<&'static 
     let words = words_of(alloc, before.words)?;
     let mut place = place_of(alloc, before)?;
     let mut say = MemorySink::new(alloc, 5, List::from_slice(alloc, before.says)?);
-    let answer = account_alone(alloc, Tool::Nfacctd, &words, &mut place, &mut say);
+    let answer = account_alone(
+        alloc,
+        Hashing::fixed(),
+        Tool::Nfacctd,
+        &words,
+        &mut place,
+        &mut say,
+    );
     Ok(if !is_answer(&answer, after.answer) {
         "answer"
     } else if status(&answer) != after.status {
@@ -1063,7 +1070,14 @@ fn rows_of_many_records_order_by_number(rt: HostRuntime) -> Result<(), Fail> {
     let name = Text::from_slice(alloc, b"flows.cap")?;
     place.put(name, many_datagrams(alloc, 340)?)?;
     let mut say = MemorySink::new(alloc, 5, List::new(alloc));
-    let answer = account_in_memory(alloc, Tool::Nfacctd, &words, &mut place, &mut say);
+    let answer = account_in_memory(
+        alloc,
+        Hashing::fixed(),
+        Tool::Nfacctd,
+        &words,
+        &mut place,
+        &mut say,
+    );
     assert!(rt; is_answer(&answer, Kind::Done));
     assert_eq!(rt; say.held().as_slice(), DONE);
     assert!(rt; holds(alloc, &place, b"p.csv", Some(MANY_ROWS))?);

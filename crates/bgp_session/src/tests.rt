@@ -268,8 +268,16 @@ fn a_marker_is_judged_with_its_header(rt: HostRuntime) -> Result<(), Fail> {
     let answers: [(usize, Option<Why>, &[&[u8]]); 4] = [
         (1, None, &[ANSWER, KEEPALIVE, KEEPALIVE]),
         (18, None, &[ANSWER, KEEPALIVE, KEEPALIVE]),
-        (19, fault(1, 1, 0), &[ANSWER, KEEPALIVE, KEEPALIVE, BAD_MARKER]),
-        (49, fault(1, 1, 0), &[ANSWER, KEEPALIVE, KEEPALIVE, BAD_MARKER]),
+        (
+            19,
+            fault(1, 1, 0),
+            &[ANSWER, KEEPALIVE, KEEPALIVE, BAD_MARKER],
+        ),
+        (
+            49,
+            fault(1, 1, 0),
+            &[ANSWER, KEEPALIVE, KEEPALIVE, BAD_MARKER],
+        ),
     ];
     for (count, closed, replies) in answers {
         let end = before.saturating_add(count).min(octets.len());

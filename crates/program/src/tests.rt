@@ -1,5 +1,5 @@
 use crate::run_words;
-use acct_types::{List, NoMemory, Octets, Text};
+use acct_types::{Hashing, List, NoMemory, Octets, Text};
 use config_keys::Tool;
 use outside_io::{MemoryPlace, MemorySink};
 use std::alloc::Global;
@@ -62,7 +62,14 @@ fn difference(alloc: Global, case: &Case) -> Result<&'static str, Fail> {
     put(alloc, &mut place, b"flows.cap", CAPTURE)?;
     let mut say = MemorySink::new(alloc, 5, List::new(alloc));
     let words = words_of(alloc, words)?;
-    let status = run_words(alloc, Tool::Nfacctd, &words, &mut place, &mut say);
+    let status = run_words(
+        alloc,
+        Hashing::fixed(),
+        Tool::Nfacctd,
+        &words,
+        &mut place,
+        &mut say,
+    );
     let name = Text::from_slice(alloc, b"p.csv")?;
     let wrote = match (place.get(&name), output) {
         (Some(octets), Some(output)) => octets.as_slice() == output,

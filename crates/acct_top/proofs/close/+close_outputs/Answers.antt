@@ -1,18 +1,16 @@
 use Rattle.std.proofs.Common.{◌≡◌, ◌≢◌, ◌<◌, map, subst, ap}
 use Rattle.std.proofs.lemmas.List.Elements.{All-rest}
-use Rattle.collect_core.specs.Ends.{PluginEnding}
+use Rattle.collect_core.specs.Ends.{PluginEnding, ending_of}
 use Rattle.outside_io.specs.declared.ends.OutEnd.TheVariants as out
 use Rattle.plugin_work.specs.declared.plugin.PluginEnd.{PluginEnd}
-use Rattle.plugin_work.specs.Sinks.{state_of as sink_state}
 use Rattle.acct_top.specs.Run.{HaveOwnFiles}
-use Rattle.acct_top.specs.State.{state_of}
 use Rattle.acct_top.proofs.CloseLemmas.{all_closed, first_unwritten, names_kept}
 use Rattle.acct_top.proofs.OpenLemmas.{first_item}
 use Rattle.acct_top.proofs.close.+close_outputs.Goals as goal
 
 pub close_outputs-others-requires-clause-counted : goal.close_outputs-others-requires-clause-counted
 close_outputs-others-requires-clause-counted g t c κs within =
-    All-rest (λ (end : PluginEnd g.row.P-Out.Denot). end.end ≡ out.Failed → 0 < g.P.Out.Sink.faults end.out) c.in-Some.end _ _ c.in-Some.ensures.items c.requires.counted
+    All-rest (λ (end : PluginEnd g.row.P-Out.Denot). end.end ≡ out.Failed → 0 < (g.P.Out.Sink.state end.out).faults) c.in-Some.end _ _ c.in-Some.ensures.items c.requires.counted
 
 pub close_outputs-others-requires-clause-in_memory : goal.close_outputs-others-requires-clause-in_memory
 close_outputs-others-requires-clause-in_memory g t c κs within =
@@ -29,14 +27,15 @@ returns-in_err-unwritten-clause-others g t c = λ told.
     (c.close_output-first.ensures.others told) (c.close_outputs-others.ensures.others told)
 
 pub returns-then-whole-clause-closed : goal.returns-then-whole-clause-closed
-returns-then-whole-clause-closed g t c = λ told job flows before starts w.
-    let at = λ (p : g.row.P.Denot). state_of g.P.Place.names g.P.Place.taken g.P.Place.open_faults g.P.Place.read_faults g.P.Place.write_faults p in
-    let ending : PluginEnd g.row.P-Out.Denot → PluginEnding = λ e. record { sink = sink_state g.P.Out.Sink.held g.P.Out.Sink.faults e.out; end = e.end; purged = e.purged } in
+returns-then-whole-clause-closed g t c = λ told job course flows before starts w.
+    let at = λ (p : g.row.P.Denot). g.P.Place.state p in
+    let ending : PluginEnd g.row.P-Out.Denot → PluginEnding = ending_of g.P.Out.Sink.state in
     let plugin = c.plugin-item.result in
     let splits = first_item c.args.plugins.now plugin c.in-len1-up.len_at_least c.plugin-item.is in
-    all_closed job flows before (at c.args.place.now) (at c.close_output-first.new.place) (at c.close_outputs-others.new.place) c.begin_of.result c.args.plugins.now plugin _ starts _ (ending c.in-Some.end) _
+    all_closed job course flows before (at c.args.place.now) (at c.close_output-first.new.place) (at c.close_outputs-others.new.place) c.begin_of.result c.args.plugins.now plugin _ starts _ (ending c.in-Some.end) _
     c.in_ok-whole.whole _ splits (ap (map ending) c.in-Some.ensures.items)
     (record {
+      conserve = c.drops_conserve.ensures;
       is_begin = c.begin_of.ensures;
       apart = (subst HaveOwnFiles splits c.requires.apart).0;
       others = c.close_output-first.ensures.others told;
@@ -45,7 +44,7 @@ returns-then-whole-clause-closed g t c = λ told job flows before starts w.
       after_later = c.close_outputs-others.ensures.none_fell.writes;
       failed = c.in_ok-whole.ensures.cause;
       closed = c.in_ok-whole.ensures.closed told;
-      rest = c.in_ok-unwritten.ensures.closed told job flows before;
+      rest = c.in_ok-unwritten.ensures.closed told job course flows before;
     }) w c.if-whole.true
 
 pub returns-then-whole-clause-others : goal.returns-then-whole-clause-others
@@ -54,14 +53,15 @@ returns-then-whole-clause-others g t c = λ told.
     (c.close_output-first.ensures.others told) (c.close_outputs-others.ensures.others told)
 
 pub returns-else-whole-clause-closed : goal.returns-else-whole-clause-closed
-returns-else-whole-clause-closed g t c = λ told job flows before starts w.
-    let at = λ (p : g.row.P.Denot). state_of g.P.Place.names g.P.Place.taken g.P.Place.open_faults g.P.Place.read_faults g.P.Place.write_faults p in
-    let ending : PluginEnd g.row.P-Out.Denot → PluginEnding = λ e. record { sink = sink_state g.P.Out.Sink.held g.P.Out.Sink.faults e.out; end = e.end; purged = e.purged } in
+returns-else-whole-clause-closed g t c = λ told job course flows before starts w.
+    let at = λ (p : g.row.P.Denot). g.P.Place.state p in
+    let ending : PluginEnd g.row.P-Out.Denot → PluginEnding = ending_of g.P.Out.Sink.state in
     let plugin = c.plugin-item.result in
     let splits = first_item c.args.plugins.now plugin c.in-len1-up.len_at_least c.plugin-item.is in
-    first_unwritten job flows before (at c.args.place.now) (at c.close_output-first.new.place) (at c.close_outputs-others.new.place) c.begin_of.result c.args.plugins.now plugin _ starts _ (ending c.in-Some.end) _
+    first_unwritten job course flows before (at c.args.place.now) (at c.close_output-first.new.place) (at c.close_outputs-others.new.place) c.begin_of.result c.args.plugins.now plugin _ starts _ (ending c.in-Some.end) _
     c.in_ok-whole.whole _ splits (ap (map ending) c.in-Some.ensures.items)
     (record {
+      conserve = c.drops_conserve.ensures;
       is_begin = c.begin_of.ensures;
       apart = (subst HaveOwnFiles splits c.requires.apart).0;
       others = c.close_output-first.ensures.others told;
@@ -70,7 +70,7 @@ returns-else-whole-clause-closed g t c = λ told job flows before starts w.
       after_later = c.close_outputs-others.ensures.none_fell.writes;
       failed = c.in_ok-whole.ensures.cause;
       closed = c.in_ok-whole.ensures.closed told;
-      rest = c.in_ok-unwritten.ensures.closed told job flows before;
+      rest = c.in_ok-unwritten.ensures.closed told job course flows before;
     }) w c.if-whole.false
 
 pub returns-else-whole-clause-others : goal.returns-else-whole-clause-others

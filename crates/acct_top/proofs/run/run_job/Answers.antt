@@ -1,15 +1,15 @@
 use Rattle.std.proofs.Common.{◌≡◌, ◌≢◌, ◌∙◌, ℕ, List, Option, map, sym, subst, Bor, arith}
 use Rattle.std.specs.Prelude.{IsSome}
 use Rattle.std.proofs.lemmas.List.Elements.{All-map, All-weaker}
-use Rattle.collect_core.specs.Ends.{PluginEnding}
+use Rattle.collect_core.specs.Course.{unrouted}
+use Rattle.collect_core.specs.Ends.{PluginEnding, ending_of}
 use Rattle.outside_io.specs.Causes.{Rose}
 use Rattle.outside_io.specs.declared.ends.OutEnd.TheVariants as out
 use Rattle.plugin_work.specs.declared.plugin.PluginEnd.{PluginEnd}
-use Rattle.plugin_work.specs.Sinks.{SinkState, state_of as sink_state}
+use Rattle.outside_io.specs.States.{SinkState}
 use Rattle.acct_top.specs.Conservation.{IsNoOutput}
 use Rattle.acct_top.specs.Job.{capture_of}
 use Rattle.acct_top.specs.Run.{IsNewSink}
-use Rattle.acct_top.specs.State.{state_of}
 use Rattle.acct_top.proofs.CloseLemmas.{Counts, all_before_map, all_counted, rose_within}
 use Rattle.acct_top.proofs.JobLemmas.{job_names}
 use Rattle.acct_top.proofs.RunLemmas.{job_holds, job_reason, lent_name, named, run_facts, run_failed}
@@ -21,7 +21,7 @@ run_over-requires-clause-left g c κs within = λ told.
     let capture = c.unwrap-capture.result.now in
     let is : capture ≡ capture_of job = lent_name (λ (n : Bor (List ℕ)). n.now) c.as_ref.result job.config.acct_flow_capture c.unwrap-capture.result c.as_ref.ensures.value c.unwrap-capture.ensures in
     let none : IsNoOutput job capture = subst (λ (name : List ℕ). IsNoOutput job name) (sym is) (job_names job c.requires.replay).capture in
-    let same : g.P.Place.names c.open_all.new.place capture ≡ g.P.Place.names c.args.place.now capture = c.open_all.ensures.others told capture none in
+    let same : (g.P.Place.state c.open_all.new.place).names capture ≡ (g.P.Place.state c.args.place.now).names capture = c.open_all.ensures.others told capture none in
     let input = c.in-Ok.ensures.input told in
     (subst (λ (o : Option (List ℕ)). IsSome o) (sym same) input.0, input.1 ∙ sym same)
 
@@ -33,23 +33,23 @@ close_all-requires-clause-audit_apart g c κs within = (job_names c.args.job.now
 
 pub close_all-requires-clause-counted : goal.close_all-requires-clause-counted
 close_all-requires-clause-counted g c κs within =
-    let ending : PluginEnd g.row.P-Out.Denot → PluginEnding = λ e. record { sink = sink_state g.P.Out.Sink.held g.P.Out.Sink.faults e.out; end = e.end; purged = e.purged } in
-    let sink = λ (o : g.row.P-Out.Denot). sink_state g.P.Out.Sink.held g.P.Out.Sink.faults o in
+    let ending : PluginEnd g.row.P-Out.Denot → PluginEnding = ending_of g.P.Out.Sink.state in
+    let sink = λ (o : g.row.P-Out.Denot). g.P.Out.Sink.state o in
     let run = c.in-Ok-run_over.ensures.run in
     all_before_map Counts ending c.in-Ok-run_over.end.plugins
-    (all_counted c.args.job.now _ c.args.job.now.config.plugins _ _ run.plugins
+    (all_counted c.args.job.now unrouted _ c.args.job.now.config.plugins _ _ run.plugins
     (All-map (λ (s : SinkState). s.faults ≡ 0) sink c.in-Ok.opened.outs
     (All-weaker (λ (o : g.row.P-Out.Denot). IsNewSink g.P.Place.tells (sink o)) (λ (o : g.row.P-Out.Denot). (sink o).faults ≡ 0) (λ o new. new.no_fault) c.in-Ok.opened.outs c.in-Ok.ensures.outputs)))
 
 pub close_all-requires-clause-in_memory : goal.close_all-requires-clause-in_memory
 close_all-requires-clause-in_memory g c κs within =
-    let ending : PluginEnd g.row.P-Out.Denot → PluginEnding = λ e. record { sink = sink_state g.P.Out.Sink.held g.P.Out.Sink.faults e.out; end = e.end; purged = e.purged } in
+    let ending : PluginEnd g.row.P-Out.Denot → PluginEnding = ending_of g.P.Out.Sink.state in
     all_before_map (λ (e : PluginEnding). e.end ≢ out.Memory) ending c.in-Ok-run_over.end.plugins c.in-Ok-run_over.ensures.run.plugins_in_memory
 
 pub returns-clause-holds : goal.returns-clause-holds
 returns-clause-holds g c = λ told.
-    let at = λ (p : g.row.P.Denot). state_of g.P.Place.names g.P.Place.taken g.P.Place.open_faults g.P.Place.read_faults g.P.Place.write_faults p in
-    let sink = λ (o : g.row.P-Out.Denot). sink_state g.P.Out.Sink.held g.P.Out.Sink.faults o in
+    let at = λ (p : g.row.P.Denot). g.P.Place.state p in
+    let sink = λ (o : g.row.P-Out.Denot). g.P.Out.Sink.state o in
     let job = c.args.job.now in
     let before = at c.args.place.now in
     let opened = at c.open_all.new.place in
@@ -58,7 +58,7 @@ returns-clause-holds g c = λ told.
     let capture = c.unwrap-capture.result.now in
     let is : capture ≡ capture_of job = lent_name (λ (n : Bor (List ℕ)). n.now) c.as_ref.result job.config.acct_flow_capture c.unwrap-capture.result c.as_ref.ensures.value c.unwrap-capture.ensures in
     let flow = c.in-Ok-run_over.end.flow in
-    job_holds job before after c.answer_of.result flow _ c.answer_of.ensures
+    job_holds c.runs_without_routes_are_lawful.ensures job before after c.answer_of.result flow _ c.answer_of.ensures
     (run_facts job g.P.Place.tells before opened over after capture (map sink c.in-Ok.opened.outs) (sink c.in-Ok.opened.audit) (sink c.run_over.new.audit) flow _ c.in-Ok-run_over.end.audit _ told (record {
       is_capture = is;
       apart = (job_names job c.requires.replay).capture;
@@ -71,14 +71,15 @@ returns-clause-holds g c = λ told.
       audit_new = c.in-Ok.ensures.audit;
       run = c.in-Ok-run_over.ensures.run;
       failed = c.in-Ok-run_over.ensures.failed;
+      taken_opened = c.in-Ok.ensures.taken told;
       taken_after = c.close_all.ensures.taken told;
       others_after = c.close_all.ensures.others told;
-      closed = λ flows written. c.in-Ok-close_all.ensures.closed told flows before _ _ written;
+      closed = λ flows written. c.in-Ok-close_all.ensures.closed told unrouted flows before _ _ written;
     }))
 
 pub returns-clause-reason : goal.returns-clause-reason
 returns-clause-reason g c =
-    let at = λ (p : g.row.P.Denot). state_of g.P.Place.names g.P.Place.taken g.P.Place.open_faults g.P.Place.read_faults g.P.Place.write_faults p in
+    let at = λ (p : g.row.P.Denot). g.P.Place.state p in
     let job = c.args.job.now in
     let before = at c.args.place.now in
     let opened = at c.open_all.new.place in
@@ -87,7 +88,7 @@ returns-clause-reason g c =
     let capture = c.unwrap-capture.result.now in
     let is : capture ≡ capture_of job = lent_name (λ (n : Bor (List ℕ)). n.now) c.as_ref.result job.config.acct_flow_capture c.unwrap-capture.result c.as_ref.ensures.value c.unwrap-capture.ensures in
     let flow = c.in-Ok-run_over.end.flow in
-    job_reason job before after c.answer_of.result flow _ c.answer_of.ensures
+    job_reason c.runs_without_routes_are_lawful.ensures job before after c.answer_of.result flow _ c.answer_of.ensures
     (run_failed job before opened over after capture flow is c.open_all.ensures.none_fell c.close_all.ensures.none_fell c.in-Ok-run_over.ensures.failed)
     (λ other is_name.
     let rose = named (λ (n : Bor (List ℕ)). n.now) (λ (name : List ℕ). Rose (over.writes name) (after.writes name)) c.in-Ok-close_all.unwritten c.in-Ok-close_all.ensures.cause other is_name in

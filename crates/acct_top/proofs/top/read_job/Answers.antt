@@ -12,8 +12,8 @@ pub returns-in-Err-map_of-clause-refused : goal.returns-in-Err-map_of-clause-ref
 returns-in-Err-map_of-clause-refused g c = λ told.
     let text = c.in-Ok.ensures in
     let config = c.in-Ok-read_built.config in
-    let said = read_text_says c.args.tool c.args.file.now (g.P.Place.names c.args.place.now) c.in-Ok.text c.as_slice.result.now (says config) c.as_slice.ensures (text.text told) text.short c.in-Ok-read_built.ensures.config in
-    tags_refused c.in-Err-map_of.answer c.args.tool c.args.file.now (g.P.Place.names c.args.place.now) (says config) said
+    let said = read_text_says c.args.tool c.args.file.now (g.P.Place.state c.args.place.now).names c.in-Ok.text c.as_slice.result.now (says config) c.as_slice.ensures (text.text told) text.short c.in-Ok-read_built.ensures.config in
+    tags_refused c.in-Err-map_of.answer c.args.tool c.args.file.now (g.P.Place.state c.args.place.now).names (says config) said
     (subst (λ (n : Names). IsMapRefusal tag_map_of n config.pre_tag_map c.in-Err-map_of.answer) (text.names told) (c.in-Err-map_of.ensures.refused told))
 
 -- src/top.rt:67:24
@@ -22,8 +22,8 @@ returns-in-Err-map_of-2-clause-refused g c = λ told.
     let text = c.in-Ok.ensures in
     let tags = c.in-Ok-map_of.ensures in
     let config = c.in-Ok-read_built.config in
-    let said = read_text_says c.args.tool c.args.file.now (g.P.Place.names c.args.place.now) c.in-Ok.text c.as_slice.result.now (says config) c.as_slice.ensures (text.text told) text.short c.in-Ok-read_built.ensures.config in
-    samplings_refused c.in-Err-map_of-2.answer c.args.tool c.args.file.now (g.P.Place.names c.args.place.now) (says config) c.in-Ok-map_of.tags said
+    let said = read_text_says c.args.tool c.args.file.now (g.P.Place.state c.args.place.now).names c.in-Ok.text c.as_slice.result.now (says config) c.as_slice.ensures (text.text told) text.short c.in-Ok-read_built.ensures.config in
+    samplings_refused c.in-Err-map_of-2.answer c.args.tool c.args.file.now (g.P.Place.state c.args.place.now).names (says config) c.in-Ok-map_of.tags said
     (subst (λ (n : Names). IsMap tag_map_of [] n config.pre_tag_map c.in-Ok-map_of.tags) (text.names told) (tags.map told))
     (subst (λ (n : Names). IsMapRefusal sampling_map_of n config.sampling_map c.in-Err-map_of-2.answer) (tags.names told ∙ text.names told) (c.in-Err-map_of-2.ensures.refused told))
 
@@ -34,8 +34,8 @@ returns-clause-refused g c = λ told.
     let tags = c.in-Ok-map_of.ensures in
     let samplings = c.in-Ok-map_of-2.ensures in
     let config = c.in-Ok-read_built.config in
-    let said = read_text_says c.args.tool c.args.file.now (g.P.Place.names c.args.place.now) c.in-Ok.text c.as_slice.result.now (says config) c.as_slice.ensures (text.text told) text.short c.in-Ok-read_built.ensures.config in
-    lacks_capture c.refused-in-None.result c.args.tool c.args.file.now (g.P.Place.names c.args.place.now) (says config) c.in-Ok-map_of.tags c.in-Ok-map_of-2.samplings said
+    let said = read_text_says c.args.tool c.args.file.now (g.P.Place.state c.args.place.now).names c.in-Ok.text c.as_slice.result.now (says config) c.as_slice.ensures (text.text told) text.short c.in-Ok-read_built.ensures.config in
+    lacks_capture c.refused-in-None.result c.args.tool c.args.file.now (g.P.Place.state c.args.place.now).names (says config) c.in-Ok-map_of.tags c.in-Ok-map_of-2.samplings said
     (subst (λ (n : Names). IsMap tag_map_of [] n config.pre_tag_map c.in-Ok-map_of.tags) (text.names told) (tags.map told))
     (subst (λ (n : Names). IsMap sampling_map_of [] n config.sampling_map c.in-Ok-map_of-2.samplings) (tags.names told ∙ text.names told) (samplings.map told))
     c.in-None.ensures.none c.refused-in-None.ensures
