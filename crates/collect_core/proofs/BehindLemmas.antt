@@ -6,7 +6,7 @@ use Rattle.std.proofs.lemmas.List.{append-nil, length-reverse, length-take, reve
 use Rattle.acct_types.specs.declared.datagram.Datagram.{Datagram}
 use Rattle.acct_types.specs.declared.flow.FlowRecord.{FlowRecord}
 use Rattle.config_keys.specs.declared.plugin.PluginConfig.{PluginConfig}
-use Rattle.collect_core.specs.Course.{unrouted}
+use Rattle.collect_core.specs.Course.{Course, unrouted}
 use Rattle.collect_core.specs.declared.job.Job.{Job}
 use Rattle.collect_core.specs.Due.{Entry, all_behind, due, entries_from, entries_in, entry_at, over_all, records_in, records_of}
 use Rattle.collect_core.specs.Most.{Most}
@@ -70,12 +70,12 @@ all_entries_length job plugin earlier (d ∷ flows) =
     ∙ ap₂ (λ (m n : ℕ). m + n) (entries_length job plugin (length earlier + 1) d.moment 1 (records_in job earlier d)) (all_entries_length job plugin (d ∷ earlier) flows)
     ∙ sym (length-append (records_in job earlier d) (all_behind (records_in job) (d ∷ earlier) flows))
 
-entries_taken : (job : Job) (plugin : PluginConfig) (datagram moment row n : ℕ) (flows : List FlowRecord)
-    → take n (entries_from job unrouted plugin datagram moment row flows) ≡ entries_from job unrouted plugin datagram moment row (take n flows)
-entries_taken job plugin datagram moment row zero flows = refl
-entries_taken job plugin datagram moment row (suc n) [] = refl
-entries_taken job plugin datagram moment row (suc n) (flow ∷ flows) =
-    ap (λ (entries : List Entry). entry_at job unrouted plugin datagram moment row flow ∷ entries) (entries_taken job plugin datagram moment (row + 1) n flows)
+pub entries_taken : (job : Job) (course : Course) (plugin : PluginConfig) (datagram moment row n : ℕ) (flows : List FlowRecord)
+    → take n (entries_from job course plugin datagram moment row flows) ≡ entries_from job course plugin datagram moment row (take n flows)
+entries_taken job course plugin datagram moment row zero flows = refl
+entries_taken job course plugin datagram moment row (suc n) [] = refl
+entries_taken job course plugin datagram moment row (suc n) (flow ∷ flows) =
+    ap (λ (entries : List Entry). entry_at job course plugin datagram moment row flow ∷ entries) (entries_taken job course plugin datagram moment (row + 1) n flows)
 
 -- how many entries are due
 pub due_length : (job : Job) (most : Most) (plugin : PluginConfig) (flows : List Datagram) → length (due job most unrouted plugin flows) ≡ min most.records (length (records_of job flows))
@@ -87,16 +87,10 @@ pub due_none : (job : Job) (most : Most) (plugin : PluginConfig) → [] ≡ due 
 due_none job most plugin = sym (take-nil most.records)
 
 -- the entries that are due of one datagram more
-pub due_more : (job : Job) (most : Most) (plugin : PluginConfig) (flows : List Datagram) (d : Datagram) (number : ℕ) (given : List FlowRecord) → number ≡ length (flows ++ d ∷ [])
-    → given ≡ take (most.records - length (records_of job flows)) (records_in job (reverse flows) d)
-    → due job most unrouted plugin flows ++ entries_from job unrouted plugin number d.moment 1 given ≡ due job most unrouted plugin (flows ++ d ∷ [])
-due_more job most plugin flows d number given numbered is =
+pub due_more : (job : Job) (most : Most) (plugin : PluginConfig) (flows : List Datagram) (d : Datagram) (room : ℕ) → room ≡ most.records - length (records_of job flows)
+    → due job most unrouted plugin flows ++ take room (entries_in job unrouted plugin (reverse flows) d) ≡ due job most unrouted plugin (flows ++ d ∷ [])
+due_more job most plugin flows d room is =
     sym (ap (take most.records) (over_all_more (entries_in job unrouted plugin) flows d)
     ∙ take_append most.records (over_all (entries_in job unrouted plugin) flows) (entries_in job unrouted plugin (reverse flows) d)
-    ∙ ap (λ (rest : List Entry). due job most unrouted plugin flows ++ rest)
-    (ap (λ (n : ℕ). take (most.records - n) (entries_in job unrouted plugin (reverse flows) d)) (all_entries_length job plugin [] flows)
-    ∙ entries_taken job plugin (length (reverse flows) + 1) d.moment 1 (most.records - length (records_of job flows)) (records_in job (reverse flows) d)
-    ∙ ap₂ (λ (n : ℕ) (rows : List FlowRecord). entries_from job unrouted plugin n d.moment 1 rows) same (sym is)))
-  where
-    same : length (reverse flows) + 1 ≡ number
-    same = omega (arith, length-reverse flows, length-append flows (d ∷ []), numbered)
+    ∙ ap (λ (n : ℕ). due job most unrouted plugin flows ++ take n (entries_in job unrouted plugin (reverse flows) d))
+    (ap (λ (n : ℕ). most.records - n) (all_entries_length job plugin [] flows) ∙ sym is))

@@ -1,128 +1,128 @@
--- Plugins that are given entries, one after another.
-use Rattle.std.proofs.Common.{◌≡◌, ◌≢◌, ◌∙◌, ◌-◌, ◌^◌, All, Bool, true, false, nat_eq, get_or-set_other, ◌⊎◌, inl, inr, ◌+◌, ◌<◌, ◌≤◌, ◌∷◌, ◌++◌, [], ℕ, zero, suc, List, arith, ap, ap₂, sym, subst, get_or, length, refl, append_assoc, take, add-zero}
-use Rattle.std.specs.Prelude.{⊤}
+-- Plugins that are given items by their numbers.
+use Rattle.std.proofs.Common.{◌≡◌, ◌≢◌, ◌∙◌, ◌+◌, ◌<◌, ◌≤◌, ◌∷◌, ◌++◌, [], ℕ, zero, suc, Bool, true, false, nat_eq, List, append_assoc, append-nil, arith, ap, ap₂, get_or, get_or-set_other, length, length-append, map, refl, subst, sym}
+use Rattle.std.specs.Prelude.{Some, ◌==◌, if◌then◌else◌, slice_get}
 use Rattle.std.proofs.Math.ListN.{set}
-use Rattle.std.proofs.lemmas.Bool.{eqb-false, eqb-true}
+use Rattle.std.proofs.lemmas.Bool.{eq-eqb, eqb-false, eqb-true, ne_eqb}
 use Rattle.std.proofs.lemmas.Grind.{get_or-set_at}
-use Rattle.std.proofs.lemmas.List.{get_or_default, map-append, take_all, take_more, length-take-le}
-use Rattle.acct_types.specs.declared.flow.FlowRecord.{FlowRecord}
+use Rattle.std.proofs.lemmas.List.{get_or_default, length-set, map-append}
 use Rattle.acct_types.specs.declared.item.Item.{Item}
 use Rattle.config_keys.specs.declared.plugin.PluginConfig.{PluginConfig}
 use Rattle.plugin_work.specs.Plugins.{HasTaken, PluginState}
 use Rattle.outside_io.specs.States.{SinkState}
-use Rattle.collect_core.specs.Course.{unrouted}
-use Rattle.collect_core.specs.declared.job.Job.{Job}
-use Rattle.collect_core.specs.Due.{Entry, entries_from, entry_at, entry_of}
-use Rattle.collect_core.specs.Given.{AreGiven, IsGiven}
+use Rattle.collect_core.specs.Due.{Entry, entry_of}
+use Rattle.collect_core.specs.Given.{AreGiven, IsGiven, Take}
+use Rattle.collect_core.specs.Loads.{given_to}
+use Rattle.collect_core.proofs.LoadLemmas.{given_append, given_one}
 
--- a plugin that takes one item more is given its entry
-pub given_more : (plugin : PluginConfig) (start : SinkState) (entries : List Entry) (item : Item) (entry : Entry) (old new : PluginState) → entry_of item ≡ entry
-    → ((items : List Item) → HasTaken plugin start items old → HasTaken plugin start (items ++ item ∷ []) new) → IsGiven plugin start entries old → IsGiven plugin start (entries ++ entry ∷ []) new
-given_more plugin start entries item entry old new is takes given = record {
-  items = given.items ++ item ∷ [];
-  are = map-append entry_of given.items (item ∷ []) ∙ ap₂ (λ (es : List Entry) (e : Entry). es ++ e ∷ []) given.are is;
-  taken = takes given.items given.taken;
+-- the same items, said otherwise
+take_so : (before after : List PluginState) (some other : ℕ → List Item) → ((place : ℕ) → some place ≡ other place) → Take before after some → Take before after other
+take_so before after some other same taken = let path : some ≡ other = λ i place. same place i in subst (λ (items : ℕ → List Item). Take before after items) path taken
+
+-- nothing is given
+pub take_none : (states : List PluginState) → Take states states (λ _. [])
+take_none states = record {
+  many = refl;
+  each = λ place d config start earlier within had. subst (λ (items : List Item). HasTaken config start items (get_or states place d)) (sym (append-nil earlier)) had;
+  taken = λ place d within. omega arith;
 }
 
--- the first so many plugins were given the later entries, and the others the earlier ones
-abbrev pub AreGivenUpTo : ℕ → List PluginConfig → List SinkState → (PluginConfig → List Entry) → (PluginConfig → List Entry) → List PluginState → Type 0
-AreGivenUpTo zero plugins starts earlier later states = AreGiven plugins starts earlier states
-AreGivenUpTo (suc i) [] [] earlier later [] = ⊤
-AreGivenUpTo (suc i) (plugin ∷ plugins) (start ∷ starts) earlier later (state ∷ states) = IsGiven plugin start (later plugin) state × AreGivenUpTo i plugins starts earlier later states
-AreGivenUpTo (suc i) plugins starts earlier later states = ⊥
+-- one item after others
+take_both : (before between after : List PluginState) (some more : ℕ → List Item) → Take before between some → Take between after more → Take before after (λ place. some place ++ more place)
+take_both before between after some more first next = record {
+  many = next.many ∙ first.many;
+  each = λ place d config start earlier within had.
+      subst (λ (items : List Item). HasTaken config start items (get_or after place d)) (append_assoc earlier (some place) (more place))
+      (next.each place d config start (earlier ++ some place) (omega (arith, within, first.many)) (first.each place d config start earlier within had));
+  taken = λ place d within. omega (arith, first.taken place d within, next.taken place d (omega (arith, within, first.many)), length-append (some place) (more place));
+}
 
--- one plugin more was given its later entries
-pub one_given : (i : ℕ) (plugins : List PluginConfig) (starts : List SinkState) (earlier later : PluginConfig → List Entry) (states : List PluginState) (plugin : PluginConfig) (new d : PluginState)
-    → i < length plugins → i < length states → plugin ≡ get_or plugins i plugin
-    → ((start : SinkState) → IsGiven plugin start (earlier plugin) (get_or states i d) → IsGiven plugin start (later plugin) new)
-    → AreGivenUpTo i plugins starts earlier later states → AreGivenUpTo (suc i) plugins starts earlier later (set states i new)
-one_given zero (first ∷ plugins) (start ∷ starts) earlier later (state ∷ states) plugin new d more here is step given =
-    (subst (λ (p : PluginConfig). IsGiven p start (later p) new) is (step start (subst (λ (p : PluginConfig). IsGiven p start (earlier p) state) (sym is) given.0)), given.1)
-one_given zero (first ∷ plugins) [] earlier later (state ∷ states) plugin new d more here is step given = absurd given
-one_given (suc i) (first ∷ plugins) (start ∷ starts) earlier later (state ∷ states) plugin new d more here is step given =
-    (given.0, one_given i plugins starts earlier later states plugin new d (omega arith) (omega arith) is step given.1)
-one_given (suc i) (first ∷ plugins) [] earlier later (state ∷ states) plugin new d more here is step given = absurd given
-one_given i [] starts earlier later states plugin new d more here is step given = absurd (omega (arith, more))
-one_given i (first ∷ plugins) starts earlier later [] plugin new d more here is step given = absurd (omega (arith, here))
+pub take_more : (before between after : List PluginState) (loads : List (ℕ × Item)) (load : ℕ × Item) → Take before between (λ place. given_to place loads)
+    → Take between after (λ place. if load.0 == place then load.1 ∷ [] else []) → Take before after (λ place. given_to place (loads ++ load ∷ []))
+take_more before between after loads load first next =
+    take_so before after (λ place. given_to place loads ++ (if load.0 == place then load.1 ∷ [] else [])) (λ place. given_to place (loads ++ load ∷ []))
+    (λ place. sym (given_append place loads (load ∷ []) ∙ ap (λ (items : List Item). given_to place loads ++ items) (given_one place load)))
+    (take_both before between after (λ place. given_to place loads) (λ place. if load.0 == place then load.1 ∷ [] else []) first next)
 
--- all plugins were given their later entries
-pub all_given : (i : ℕ) (plugins : List PluginConfig) (starts : List SinkState) (earlier later : PluginConfig → List Entry) (states : List PluginState)
-    → (length states ≤ i) ⊎ (length plugins ≤ i) → AreGivenUpTo i plugins starts earlier later states → AreGiven plugins starts later states
-all_given zero [] [] earlier later [] few given = tt
-all_given (suc i) [] [] earlier later [] few given = tt
-all_given zero (plugin ∷ plugins) (start ∷ starts) earlier later (state ∷ states) few given = absurd (elim few [ inl h ↦ omega (arith, h) | inr h ↦ omega (arith, h) ])
-all_given (suc i) (plugin ∷ plugins) (start ∷ starts) earlier later (state ∷ states) few given =
-    (given.0, all_given i plugins starts earlier later states (elim few [ inl h ↦ inl (omega (arith, h)) | inr h ↦ inr (omega (arith, h)) ]) given.1)
-all_given i plugins starts earlier later states few given = absurd given
-
--- no plugin has taken more than one item more
-pub one_taken : (before now : List PluginState) (i : ℕ) (new d : PluginState) → i < length now → ((k : ℕ) (e : PluginState) → k < length before → (get_or now k e).taken ≤ (get_or before k e).taken + 1)
-    → ((e : PluginState) → get_or now i e ≡ get_or before i e) → new.taken ≡ (get_or now i d).taken + 1
-    → (k : ℕ) (e : PluginState) → k < length before → (get_or (set now i new) k e).taken ≤ (get_or before k e).taken + 1
-one_taken before now i new d here few same taken k e within = by (nat_eq k i) refl
+-- a number beyond the plugins
+pub take_beyond : (states : List PluginState) (number : ℕ) (item : Item) → length states ≤ number → Take states states (λ place. if number == place then item ∷ [] else [])
+take_beyond states number item beyond = record {
+  many = refl;
+  each = λ place d config start earlier within had.
+      subst (λ (items : List Item). HasTaken config start items (get_or states place d)) (sym (append-nil earlier) ∙ ap (λ (items : List Item). earlier ++ items) (sym (none place within))) had;
+  taken = λ place d within. omega (arith, ap (λ (items : List Item). length items) (none place within));
+}
   where
-    by : (b : Bool) → nat_eq k i ≡ b → (get_or (set now i new) k e).taken ≤ (get_or before k e).taken + 1
-    by true is =
-        let at : k ≡ i = eqb-true k i is in
-        let now_at : get_or (set now i new) k e ≡ new = get_or-set_at now i k new e at here in
-        let before_at : (get_or now i d).taken ≡ (get_or before k e).taken =
-        ap (λ (p : PluginState). p.taken) (get_or_default now i d e here ∙ same e ∙ ap (λ (n : ℕ). get_or before n e) (sym at)) in
-        rw now_at (omega (arith, taken, before_at))
-    by false is = let apart : k ≢ i = eqb-false k i is in rw (get_or-set_other now i k new e apart) (few k e within)
+    none : (place : ℕ) → place < length states → (if number == place then item ∷ [] else []) ≡ []
+    none place within = ap (λ (b : Bool). if b then item ∷ [] else []) (ne_eqb number place (λ same. omega (arith, same, beyond, within)))
 
--- what is given is told by any function with the same entries
-pub same_given : (plugins : List PluginConfig) (starts : List SinkState) (some other : PluginConfig → List Entry) (states : List PluginState) → ((plugin : PluginConfig) → some plugin ≡ other plugin)
-    → AreGiven plugins starts some states → AreGiven plugins starts other states
-same_given plugins starts some other states same given =
-    let path : some ≡ other = λ i plugin. same plugin i in
-    subst (λ (entries : PluginConfig → List Entry). AreGiven plugins starts entries states) path given
+-- the plugin with the number takes the item
+pub take_one : (states : List PluginState) (number : ℕ) (item : Item) (new d : PluginState) → number < length states → new.taken ≡ (get_or states number d).taken + 1
+    → ((config : PluginConfig) (start : SinkState) (items : List Item) → HasTaken config start items (get_or states number d) → HasTaken config start (items ++ item ∷ []) new)
+    → Take states (set states number new) (λ place. if number == place then item ∷ [] else [])
+take_one states number item new d here more takes = record {
+  many = length-set states number new;
+  each = λ place e config start earlier within had. each place e config start earlier within had (nat_eq number place) refl;
+  taken = λ place e within. taken place e within (nat_eq number place) refl;
+}
+  where
+    old : (place : ℕ) (e : PluginState) → number ≡ place → get_or states place e ≡ get_or states number d
+    old place e at = ap (λ (n : ℕ). get_or states n e) (sym at) ∙ get_or_default states number e d here
 
--- the entries of one record more
-entries_more : (job : Job) (plugin : PluginConfig) (datagram moment row : ℕ) (flows : List FlowRecord) (flow : FlowRecord)
-    → entries_from job unrouted plugin datagram moment row (flows ++ flow ∷ []) ≡ entries_from job unrouted plugin datagram moment row flows ++ entry_at job unrouted plugin datagram moment (row + length flows) flow ∷ []
-entries_more job plugin datagram moment row [] flow = ap (λ (n : ℕ). entry_at job unrouted plugin datagram moment n flow ∷ []) (sym (add-zero row))
-entries_more job plugin datagram moment row (first ∷ flows) flow =
-    let place : row + 1 + length flows ≡ row + length (first ∷ flows) = omega arith in
-    ap (λ (entries : List Entry). entry_at job unrouted plugin datagram moment row first ∷ entries)
-    (entries_more job plugin datagram moment (row + 1) flows flow
-    ∙ ap (λ (n : ℕ). entries_from job unrouted plugin datagram moment (row + 1) flows ++ entry_at job unrouted plugin datagram moment n flow ∷ []) place)
+    now : (place : ℕ) (e : PluginState) → number ≡ place → get_or (set states number new) place e ≡ new
+    now place e at = get_or-set_at states number place new e (sym at) here
 
--- the entries up to one record more
-pub row_more : (job : Job) (plugin : PluginConfig) (datagram moment : ℕ) (earlier : List Entry) (rows : List FlowRecord) (i : ℕ) (d : FlowRecord) → i < length rows
-    → (earlier ++ entries_from job unrouted plugin datagram moment 1 (take i rows)) ++ entry_at job unrouted plugin datagram moment (i + 1) (get_or rows i d) ∷ []
-    ≡ earlier ++ entries_from job unrouted plugin datagram moment 1 (take (i + 1) rows)
-row_more job plugin datagram moment earlier rows i d more =
-    let flow = get_or rows i d in
-    let so_far = entries_from job unrouted plugin datagram moment 1 (take i rows) in
-    let place : 1 + length (take i rows) ≡ i + 1 = omega (arith, length-take-le i rows (omega arith)) in
-    append_assoc earlier so_far (entry_at job unrouted plugin datagram moment (i + 1) flow ∷ [])
-    ∙ ap (λ (entries : List Entry). earlier ++ entries)
-    (sym (ap (entries_from job unrouted plugin datagram moment 1) (take_more rows i d more) ∙ entries_more job plugin datagram moment 1 (take i rows) flow
-    ∙ ap (λ (n : ℕ). so_far ++ entry_at job unrouted plugin datagram moment n flow ∷ []) place))
+    each : (place : ℕ) (e : PluginState) (config : PluginConfig) (start : SinkState) (earlier : List Item) → place < length states → HasTaken config start earlier (get_or states place e)
+        → (b : Bool) → nat_eq number place ≡ b → HasTaken config start (earlier ++ (if b then item ∷ [] else [])) (get_or (set states number new) place e)
+    each place e config start earlier within had true is =
+        let at : number ≡ place = eqb-true number place is in
+        subst (λ (s : PluginState). HasTaken config start (earlier ++ item ∷ []) s) (sym (now place e at)) (takes config start earlier (subst (λ (s : PluginState). HasTaken config start earlier s) (old place e at) had))
+    each place e config start earlier within had false is =
+        let apart : place ≢ number = λ same. eqb-false number place is (sym same) in
+        subst (λ (s : PluginState). HasTaken config start (earlier ++ []) s) (sym (get_or-set_other states number place new e apart))
+        (subst (λ (items : List Item). HasTaken config start items (get_or states place e)) (sym (append-nil earlier)) had)
 
--- no entries are given where there is no plugin
-pub none_at_all : (plugins : List PluginConfig) (starts : List SinkState) (some other : PluginConfig → List Entry) (states : List PluginState) → length states ≡ 0 → AreGiven plugins starts some states → AreGiven plugins starts other states
-none_at_all [] [] some other [] none given = tt
-none_at_all (plugin ∷ plugins) (start ∷ starts) some other (state ∷ states) none given = absurd (omega (arith, none))
-none_at_all plugins starts some other states none given = absurd given
+    taken : (place : ℕ) (e : PluginState) → place < length states → (b : Bool) → nat_eq number place ≡ b
+        → (get_or (set states number new) place e).taken ≡ (get_or states place e).taken + length (if b then item ∷ [] else [])
+    taken place e within true is =
+        let at : number ≡ place = eqb-true number place is in
+        ap (λ (s : PluginState). s.taken) (now place e at) ∙ more ∙ ap (λ (s : PluginState). s.taken + 1) (sym (old place e at))
+    taken place e within false is =
+        let apart : place ≢ number = λ same. eqb-false number place is (sym same) in
+        omega (arith, ap (λ (s : PluginState). s.taken) (get_or-set_other states number place new e apart))
 
--- rows are no more than there is room for
-pub few_rows : (states : List PluginState) (rows : ℕ) → 0 < length states → All (λ state. state.taken + rows ≤ 2 ^ 32 - 1) states → rows ≤ 2 ^ 32 - 1
-few_rows [] rows some room = absurd (omega (arith, some))
-few_rows (state ∷ states) rows some room = let first : state.taken + rows ≤ 2 ^ 32 - 1 = room 0 state (omega arith) in omega (arith, first)
+-- there is room for one item more
+pub room_for_one : (states between : List PluginState) (all yielded rest : List (ℕ × Item)) (load : ℕ × Item) (most : ℕ) (d : PluginState)
+    → ((place : ℕ) (e : PluginState) → place < length states → (get_or states place e).taken + length (given_to place all) ≤ most) → Take states between (λ place. given_to place yielded)
+    → (yielded ++ load ∷ []) ++ rest ≡ all → load.0 < length between → (get_or between load.0 d).taken < most
+room_for_one states between all yielded rest load most d room so_far is here =
+    let n = load.0 in
+    let within : n < length states = omega (arith, here, so_far.many) in
+    let one : given_to n (load ∷ []) ≡ load.1 ∷ [] = given_one n load ∙ ap (λ (b : Bool). if b then load.1 ∷ [] else []) (eq-eqb n n refl) in
+    omega (arith, room n d within, so_far.taken n d within,
+    ap (λ (loads : List (ℕ × Item)). length (given_to n loads)) is,
+    ap (λ (items : List Item). length items) (given_append n (yielded ++ load ∷ []) rest), length-append (given_to n (yielded ++ load ∷ [])) (given_to n rest),
+    ap (λ (items : List Item). length items) (given_append n yielded (load ∷ [])), length-append (given_to n yielded) (given_to n (load ∷ [])),
+    ap (λ (items : List Item). length items) one)
 
--- all plugins were given one record more
-pub row_given : (job : Job) (datagram moment : ℕ) (starts : List SinkState) (entries : PluginConfig → List Entry) (rows : List FlowRecord) (i : ℕ) (d : FlowRecord) (states : List PluginState) → i < length rows
-    → AreGiven job.config.plugins starts (λ plugin. (entries plugin ++ entries_from job unrouted plugin datagram moment 1 (take i rows)) ++ entry_at job unrouted plugin datagram moment (i + 1) (get_or rows i d) ∷ []) states
-    → AreGiven job.config.plugins starts (λ plugin. entries plugin ++ entries_from job unrouted plugin datagram moment 1 (take (i + 1) rows)) states
-row_given job datagram moment starts entries rows i d states more given =
-    same_given job.config.plugins starts (λ plugin. (entries plugin ++ entries_from job unrouted plugin datagram moment 1 (take i rows)) ++ entry_at job unrouted plugin datagram moment (i + 1) (get_or rows i d) ∷ [])
-    (λ plugin. entries plugin ++ entries_from job unrouted plugin datagram moment 1 (take (i + 1) rows)) states
-    (λ plugin. row_more job plugin datagram moment (entries plugin) rows i d more) given
-
--- all records were given
-pub rows_given : (job : Job) (datagram moment : ℕ) (starts : List SinkState) (entries : PluginConfig → List Entry) (rows : List FlowRecord) (i : ℕ) (states : List PluginState) → length rows ≤ i
-    → AreGiven job.config.plugins starts (λ plugin. entries plugin ++ entries_from job unrouted plugin datagram moment 1 (take i rows)) states
-    → AreGiven job.config.plugins starts (λ plugin. entries plugin ++ entries_from job unrouted plugin datagram moment 1 rows) states
-rows_given job datagram moment starts entries rows i states all given =
-    subst (λ (taken : List FlowRecord). AreGiven job.config.plugins starts (λ plugin. entries plugin ++ entries_from job unrouted plugin datagram moment 1 taken) states) (take_all i rows all) given
+-- plugins that took the items of more entries are given these
+pub all_given : (plugins : List PluginConfig) (starts : List SinkState) (earlier more : PluginConfig → List Entry) (items : ℕ → List Item) (old new : List PluginState) → Take old new items
+    → ((place : ℕ) (plugin : PluginConfig) → slice_get plugins place ≡ Some plugin → map entry_of (items place) ≡ more plugin) → AreGiven plugins starts earlier old
+    → AreGiven plugins starts (λ plugin. earlier plugin ++ more plugin) new
+all_given [] [] earlier more items [] [] taken are given = tt
+all_given [] [] earlier more items [] (state ∷ new) taken are given = absurd (omega (arith, taken.many))
+all_given (plugin ∷ plugins) (start ∷ starts) earlier more items (before ∷ old) [] taken are given = absurd (omega (arith, taken.many))
+all_given (plugin ∷ plugins) (start ∷ starts) earlier more items (before ∷ old) (state ∷ new) taken are given = (
+  record {
+    items = given.0.items ++ items 0;
+    are = map-append entry_of given.0.items (items 0) ∙ ap₂ (λ (first next : List Entry). first ++ next) given.0.are (are 0 plugin refl);
+    taken = taken.each 0 before plugin start given.0.items (omega arith) given.0.taken;
+  },
+  all_given plugins starts earlier more (λ place. items (suc place)) old new
+  (record {
+    many = omega (arith, taken.many);
+    each = λ place d config from items_before within had. taken.each (suc place) d config from items_before (omega (arith, within)) had;
+    taken = λ place d within. taken.taken (suc place) d (omega (arith, within));
+  })
+  (λ place p there. are (suc place) p there) given.1,
+)
+all_given plugins starts earlier more items old new taken are given = absurd given

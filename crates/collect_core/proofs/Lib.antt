@@ -4,6 +4,7 @@ pub mod CourseLemmas
 pub mod EndsLemmas
 pub mod FlowLemmas
 pub mod GivenLemmas
+pub mod LoadLemmas
 pub mod RunLemmas
 pub mod SeenLemmas
 pub mod StartLemmas

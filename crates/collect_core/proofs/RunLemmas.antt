@@ -1,6 +1,6 @@
 -- A run, with one datagram more and at its end.
-use Rattle.std.proofs.Common.{◌≡◌, ◌∙◌, ◌+◌, ◌-◌, ◌^◌, ◌≤◌, ◌<◌, ◌∷◌, ◌++◌, [], ℕ, List, refl, sym, ap, ap₂, drop, length, suc, take, reverse, arith, length-append, subst}
-use Rattle.std.specs.Prelude.{All, Bool, IsTrue, Result, Ok, Err, false, min, nat_lt, true}
+use Rattle.std.proofs.Common.{◌≡◌, ◌∙◌, ◌+◌, ◌-◌, ◌^◌, ◌≤◌, ◌<◌, ◌∷◌, ◌++◌, [], ℕ, List, refl, sym, ap, ap₂, drop, get_or, length, take, reverse, arith, length-append, subst}
+use Rattle.std.specs.Prelude.{All, Bool, IsTrue, Result, Ok, Err, false, min, nat_lt, true, ◌↔◌}
 use Rattle.std.proofs.lemmas.Bool.{ltb-false, ltb-true}
 use Rattle.std.proofs.Math.Seq.{drop-length, take-length}
 use Rattle.std.proofs.lemmas.Grind.{flat_map-append}
@@ -8,6 +8,7 @@ use Rattle.std.proofs.lemmas.List.{append-nil, length-map}
 use Rattle.std.proofs.lemmas.List.Elements.{All-cons, All-nil}
 use Rattle.acct_types.specs.declared.datagram.Datagram.{Datagram}
 use Rattle.acct_types.specs.declared.flow.FlowRecord.{FlowRecord}
+use Rattle.acct_types.specs.declared.item.Item.{Item}
 use Rattle.flow_decode.specs.History.{DecoderState, Knows}
 use Rattle.flow_decode.specs.declared.decoder.Decoded.{Decoded}
 use Rattle.flow_templates.specs.declared.refusal.Cause.{Cause}
@@ -24,18 +25,22 @@ use Rattle.plugin_work.specs.Sinks.{IsWritten}
 use Rattle.outside_io.specs.States.{SinkState}
 use Rattle.collect_core.specs.Course.{unrouted}
 use Rattle.collect_core.specs.declared.collector.Core.{Core}
+use Rattle.collect_core.specs.declared.collector.CoreStep.{CoreStep}
 use Rattle.collect_core.specs.declared.job.Job.{Job}
 use Rattle.collect_core.specs.declared.log.Log.{Log}
 use Rattle.collect_core.specs.Audit.{audit_text, causes_in, drops_in, refusals_in, told_in, totals_of}
-use Rattle.collect_core.specs.Due.{Entry, all_behind, decoded_in, due, entries_from, entry_of, over_all, records_in, records_of}
+use Rattle.collect_core.specs.Due.{Entry, all_behind, decoded_in, due, entries_in, entry_of, over_all, records_in, records_of}
 use Rattle.collect_core.specs.Flows.{event_octets}
-use Rattle.collect_core.specs.Given.{AreGiven, IsGiven}
+use Rattle.collect_core.specs.Given.{AreGiven, IsGiven, Take}
+use Rattle.collect_core.specs.Loads.{given_to}
 use Rattle.collect_core.specs.Most.{Most}
 use Rattle.collect_core.specs.Running.{GoesOn, HasRoom, HasRun, Stops}
-use Rattle.collect_core.specs.Seen.{HasSeen, IsFed}
-use Rattle.collect_core.proofs.BehindLemmas.{due_length, due_more, due_none, over_all_more, take_min}
+use Rattle.collect_core.specs.Seen.{HasSeen, IsStep}
+use Rattle.collect_core.proofs.BehindLemmas.{due_length, due_more, due_none, over_all_more}
 use Rattle.collect_core.proofs.CourseLemmas.{events_alone, nothing_dropped}
 use Rattle.collect_core.proofs.FlowLemmas.{count_least, fits_more, fits_no_more, octets_more, within_limits_more, within_limits_no_more}
+use Rattle.collect_core.proofs.GivenLemmas.{all_given}
+use Rattle.collect_core.proofs.LoadLemmas.{given_entries, loads_are_entries}
 use Rattle.collect_core.proofs.WrittenLemmas.{nothing_written}
 
 -- ---- what was given
@@ -60,14 +65,6 @@ taken_few [] (start ∷ starts) entries states most few given = absurd given
 taken_few (plugin ∷ plugins) [] entries states most few given = absurd given
 taken_few (plugin ∷ plugins) (start ∷ starts) entries [] most few given = absurd given
 
-given_length : (configs : List PluginConfig) (starts : List SinkState) (entries : PluginConfig → List Entry) (states : List PluginState) → AreGiven configs starts entries states → length states ≡ length configs
-given_length [] [] entries [] given = refl
-given_length (plugin ∷ plugins) (start ∷ starts) entries (state ∷ states) given = ap suc (given_length plugins starts entries states given.1)
-given_length [] [] entries (state ∷ states) given = absurd given
-given_length [] (start ∷ starts) entries states given = absurd given
-given_length (plugin ∷ plugins) [] entries states given = absurd given
-given_length (plugin ∷ plugins) (start ∷ starts) entries [] given = absurd given
-
 -- as many plugins as before are all of them
 pub same_plugins : (n : ℕ) (old new : List PluginState) → n ≡ length old → length new ≡ length old → take n (new ++ drop (length new) old) ≡ new
 same_plugins n old new all same =
@@ -76,11 +73,6 @@ same_plugins n old new all same =
     ∙ ap (take n) (append-nil new)
     ∙ ap (λ (m : ℕ). take m new) (all ∙ sym same)
     ∙ take-length new
-
--- giving them entries leaves as many plugins
-pub as_many : (configs : List PluginConfig) (starts : List SinkState) (entries others : PluginConfig → List Entry) (old new : List PluginState) → AreGiven configs starts entries old → AreGiven configs starts others new
-    → length new ≡ length old
-as_many configs starts entries others old new before after = given_length configs starts others new after ∙ sym (given_length configs starts entries old before)
 
 -- ---- what was counted
 
@@ -102,6 +94,10 @@ refused_few job earlier (d ∷ flows) =
 
 -- ---- a run
 
+-- the records of one datagram more
+records_more : (job : Job) (flows : List Datagram) (d : Datagram) → length (records_of job (flows ++ d ∷ [])) ≡ length (records_of job flows) + length (records_in job (reverse flows) d)
+records_more job flows d = ap (λ (rs : List FlowRecord). length rs) (over_all_more (records_in job) flows d) ∙ length-append (records_of job flows) (records_in job (reverse flows) d)
+
 -- no datagram was taken
 pub none_run : (job : Job) (most : Most) (starts : List SinkState) (audit : SinkState) (collector : Core) (plugins : List PluginState) (log : Log) (left : ℕ) → HasSeen job [] collector
     → collector.totals ≡ record { datagrams = 0; refused = 0; records = 0; dropped = 0; messages = 0; closed = 0 } → AreGiven job.config.plugins starts (λ _. []) plugins
@@ -118,81 +114,60 @@ none_run job most starts audit collector plugins log left seen totals given text
   octets = omega (arith, all);
 }
 
+-- each plugin was given its entries of one datagram more
+step_given : (job : Job) (starts : List SinkState) (entries : PluginConfig → List Entry) (flows : List Datagram) (d : Datagram) (room : ℕ) (old new : Core) (step : CoreStep) (plugins now : List PluginState)
+    → IsStep job flows d room old new step → Take plugins now (λ place. given_to place step.loads) → AreGiven job.config.plugins starts entries plugins
+    → AreGiven job.config.plugins starts (λ plugin. entries plugin ++ take room (entries_in job unrouted plugin (reverse flows) d)) now
+step_given job starts entries flows d room old new step plugins now is taken given =
+    all_given job.config.plugins starts entries (λ plugin. take room (entries_in job unrouted plugin (reverse flows) d)) (λ place. given_to place step.loads) plugins now taken
+    (λ place plugin there. given_entries place step.loads ∙ ap (given_to place) is.loads ∙ loads_are_entries job unrouted room (reverse flows) d place plugin there) given
+
 -- one datagram more was taken
-pub run_more : (job : Job) (most : Most) (starts : List SinkState) (start : SinkState) (flows : List Datagram) (d : Datagram) (old fed new : Core) (plugins now : List PluginState)
-    (before after : Log) (audit then : SinkState) (rows given : List FlowRecord) (text : List ℕ) (count : ℕ)
-    → HasRun job most starts start flows old plugins before audit → IsFed job flows d fed rows before.text text
-    → fed.totals.records ≡ old.totals.records → (fed.totals.dropped ≡ old.totals.dropped) × (fed.totals.messages ≡ old.totals.messages) × (fed.totals.closed ≡ old.totals.closed)
-    → IsWritten (events_text (over_all (told_in job) flows) ++ text) after.end start then → after.text ≡ []
-    → count ≡ min (length rows) (most.records - fed.totals.records) → given ≡ take count rows
-    → AreGiven job.config.plugins starts (λ plugin. due job most unrouted plugin flows ++ entries_from job unrouted plugin fed.totals.datagrams d.moment 1 given) now
-    → new.decoder ≡ fed.decoder → new.totals ≡ record fed.totals { records = fed.totals.records + count }
+pub run_more : (job : Job) (most : Most) (starts : List SinkState) (start : SinkState) (flows : List Datagram) (d : Datagram) (old new : Core) (room : ℕ) (step : CoreStep) (plugins now : List PluginState)
+    (before after : Log) (audit then : SinkState) (text : List ℕ) → HasRun job most starts start flows old plugins before audit → IsStep job flows d room old new step → room ≡ most.records - old.totals.records
+    → (new.totals.dropped ≡ old.totals.dropped) × (new.totals.messages ≡ old.totals.messages) × (new.totals.closed ≡ old.totals.closed) → text ≡ before.text ++ events_text step.events
+    → IsWritten (events_text (over_all (told_in job) flows) ++ text) after.end start then → after.text ≡ [] → Take plugins now (λ place. given_to place step.loads)
     → HasRun job most starts start (flows ++ d ∷ []) new now after then
-run_more job most starts start flows d old fed new plugins now before after audit then rows given text count had is kept others written no_lines few given_are are decoder totals = record {
-  seen = record {
-    tool = ap (λ (s : DecoderState). s.tool) decoder ∙ is.seen.tool;
-    renormalises = ap (λ (s : DecoderState). s.renormalise) decoder ∙ is.seen.renormalises;
-    knows = subst (λ (s : DecoderState). Knows s (reverse (flows ++ d ∷ []))) (sym decoder) is.seen.knows;
-    datagrams = ap (λ (t : Totals). t.datagrams) totals ∙ is.seen.datagrams;
-    refused = ap (λ (t : Totals). t.refused) totals ∙ is.seen.refused;
-  };
-  totals = totals_are job most (flows ++ d ∷ []) new.totals
-      (ap (λ (t : Totals). t.datagrams) totals ∙ is.seen.datagrams)
-      (ap (λ (t : Totals). t.refused) totals ∙ is.seen.refused)
-      (ap (λ (t : Totals). t.records) totals ∙ counted)
-      (ap (λ (t : Totals). t.dropped) totals ∙ others.0 ∙ ap (λ (t : Totals). t.dropped) had.totals ∙ ap (λ (events : List Event). length events) (nothing_dropped job most flows))
-      (ap (λ (t : Totals). t.messages) totals ∙ others.1 ∙ ap (λ (t : Totals). t.messages) had.totals)
-      (ap (λ (t : Totals). t.closed) totals ∙ others.2 ∙ ap (λ (t : Totals). t.closed) had.totals);
+run_more job most starts start flows d old new room step plugins now before after audit then text had is left others lines written no_lines taken = record {
+  seen = is.seen;
+  totals = totals_are job most (flows ++ d ∷ []) new.totals is.seen.datagrams is.seen.refused
+      (omega (arith, is.records, left, so_far, sum))
+      (others.0 ∙ ap (λ (t : Totals). t.dropped) had.totals ∙ ap (λ (events : List Event). length events) (nothing_dropped job most flows))
+      (others.1 ∙ ap (λ (t : Totals). t.messages) had.totals)
+      (others.2 ∙ ap (λ (t : Totals). t.closed) had.totals);
   given = given_so job.config.plugins starts _ (λ plugin. due job most unrouted plugin (flows ++ d ∷ [])) now
-      (λ plugin. due_more job most plugin flows d fed.totals.datagrams given is.seen.datagrams first) are;
-  written = subst (λ (t : List ℕ). IsWritten t after.end start then) lines written;
+      (λ plugin. due_more job most plugin flows d room (omega (arith, left, so_far)))
+      (step_given job starts (λ plugin. due job most unrouted plugin flows) flows d room old new step plugins now is taken had.given);
+  written = subst (λ (t : List ℕ). IsWritten t after.end start then) all_lines written;
   no_lines = no_lines;
 }
   where
-    all : ℕ
-    all = length (records_of job flows)
+    so_far : old.totals.records ≡ min most.records (length (records_of job flows))
+    so_far = ap (λ (t : Totals). t.records) had.totals
 
-    so_far : fed.totals.records ≡ min most.records all
-    so_far = kept ∙ ap (λ (t : Totals). t.records) had.totals
+    sum : length (records_of job (flows ++ d ∷ [])) ≡ length (records_of job flows) + length (records_in job (reverse flows) d)
+    sum = records_more job flows d
 
-    sum : length (records_of job (flows ++ d ∷ [])) ≡ all + length rows
-    sum = ap (λ (rs : List FlowRecord). length rs) (over_all_more (records_in job) flows d) ∙ length-append (records_of job flows) (records_in job (reverse flows) d)
-        ∙ ap (λ (rs : List FlowRecord). all + length rs) (sym is.rows_are)
-
-    counted : fed.totals.records + count ≡ min most.records (length (records_of job (flows ++ d ∷ [])))
-    counted = omega (arith, so_far, sum, few)
-
-    room : most.records - fed.totals.records ≡ most.records - all
-    room = omega (arith, so_far)
-
-    first : given ≡ take (most.records - all) (records_in job (reverse flows) d)
-    first = given_are ∙ ap (λ (n : ℕ). take n rows) few ∙ take_min (most.records - fed.totals.records) rows ∙ ap₂ (λ (n : ℕ) (rs : List FlowRecord). take n rs) room is.rows_are
-
-    lines : events_text (over_all (told_in job) flows) ++ text ≡ events_text (over_all (told_in job) (flows ++ d ∷ []))
-    lines =
-        ap (λ (t : List ℕ). events_text (over_all (told_in job) flows) ++ t) (is.lines ∙ ap (λ (t : List ℕ). t ++ events_text (told_in job (reverse flows) d)) had.no_lines)
+    all_lines : events_text (over_all (told_in job) flows) ++ text ≡ events_text (over_all (told_in job) (flows ++ d ∷ []))
+    all_lines =
+        ap (λ (t : List ℕ). events_text (over_all (told_in job) flows) ++ t)
+        (lines ∙ ap₂ (λ (t : List ℕ) (events : List Event). t ++ events_text events) had.no_lines is.events)
         ∙ sym (flat_map-append event_line (over_all (told_in job) flows) (told_in job (reverse flows) d))
         ∙ ap events_text (sym (over_all_more (told_in job) flows d))
 
--- whether the records are more than the limit by one datagram more
-pub record Passes (job : Job) (most : Most) (flows : List Datagram) (d : Datagram) (rows room : ℕ) : Type 0 where
-  pub if_more : min rows room < rows → most.records < length (records_of job (flows ++ d ∷ []))
-  pub more : most.records < length (records_of job (flows ++ d ∷ [])) → min rows room < rows
+-- the records are more than the limit by one datagram more exactly where the step says so
+pub passes_if_full : (job : Job) (most : Most) (flows : List Datagram) (d : Datagram) (old new : Core) (room : ℕ) (step : CoreStep) → old.totals ≡ totals_of job most unrouted flows
+    → IsStep job flows d room old new step → room ≡ most.records - old.totals.records → length (records_of job flows) ≤ most.records
+    → IsTrue step.full ↔ most.records < length (records_of job (flows ++ d ∷ []))
+passes_if_full job most flows d old new room step totals is left few =
+    let so_far : old.totals.records ≡ min most.records (length (records_of job flows)) = ap (λ (t : Totals). t.records) totals in
+    (λ yes. omega (arith, is.full.0 yes, left, so_far, records_more job flows d, few), λ more. is.full.1 (omega (arith, more, left, so_far, records_more job flows d, few)))
 
-pub passes_if_more : (job : Job) (most : Most) (flows : List Datagram) (d : Datagram) (old fed : Core) (rows : List FlowRecord) (before after : List ℕ) → old.totals ≡ totals_of job most unrouted flows
-    → IsFed job flows d fed rows before after → fed.totals.records ≡ old.totals.records → length (records_of job flows) ≤ most.records
-    → Passes job most flows d (length rows) (most.records - fed.totals.records)
-passes_if_more job most flows d old fed rows before after totals is kept few = record {
-  if_more = λ lt. omega (arith, so_far, sum, few, lt);
-  more = λ lt. omega (arith, so_far, sum, few, lt);
-}
-  where
-    so_far : fed.totals.records ≡ min most.records (length (records_of job flows))
-    so_far = kept ∙ ap (λ (t : Totals). t.records) totals
-
-    sum : length (records_of job (flows ++ d ∷ [])) ≡ length (records_of job flows) + length rows
-    sum = ap (λ (rs : List FlowRecord). length rs) (over_all_more (records_in job) flows d) ∙ length-append (records_of job flows) (records_in job (reverse flows) d)
-        ∙ ap (λ (rs : List FlowRecord). length (records_of job flows) + length rs) (sym is.rows_are)
+-- a plugin that took no more items than records were counted has room for those of a step
+pub step_fits : (most : Most) (collector : Core) (plugins : List PluginState) (room : ℕ) (loads : List (ℕ × Item)) → most.records ≤ 2 ^ 32 - 1 → HasRoom most collector plugins
+    → room ≡ most.records - collector.totals.records → ((number : ℕ) → length (given_to number loads) ≤ room)
+    → (place : ℕ) (d : PluginState) → place < length plugins → (get_or plugins place d).taken + length (given_to place loads) ≤ 2 ^ 32 - 1
+step_fits most collector plugins room loads least has left few place d within = omega (arith, least, has.taken place d within, has.records, left, few place)
 
 -- there is room for one datagram more
 pub has_room : (job : Job) (most : Most) (starts : List SinkState) (start : SinkState) (handed : List Datagram) (collector : Core) (plugins : List PluginState) (log : Log) (audit : SinkState) (left : ℕ)

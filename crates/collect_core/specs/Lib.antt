@@ -6,6 +6,7 @@ pub mod Flows
 pub mod Given
 pub mod Job
 pub mod Lawful
+pub mod Loads
 pub mod Most
 pub mod Run
 pub mod Running

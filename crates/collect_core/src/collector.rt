@@ -1,18 +1,20 @@
 //! The core of a collector.
 
-ghost use Rattle.std.specs.Prelude.{◌≡◌, ◌≤◌, ◌<◌, ◌+◌, ◌^◌, ◌-◌, ◌++◌, [], List as Sequence, All, length, map, true, IfOk, OnOk};
+ghost use Rattle.std.specs.Prelude.{◌≡◌, ◌≤◌, ◌<◌, ◌+◌, ◌^◌, ◌-◌, ◌++◌, [], ℕ, List as Sequence, All, length, map, true, IfOk, OnOk};
 ghost use Rattle.acct_types.specs.Counts.{IsBelow};
 ghost use Rattle.acct_types.specs.declared.datagram.Datagram.{Datagram};
 ghost use Rattle.out_text.specs.declared.event.Event.TheVariants as event;
-ghost use Rattle.out_text.specs.Events.{events_text};
+ghost use Rattle.out_text.specs.Events.{IsNamed};
 ghost use Rattle.collect_core.specs.Job.{collects};
-ghost use Rattle.collect_core.specs.Seen.{HasSeen, IsFed};
+ghost use Rattle.collect_core.specs.Loads.{given_to};
+ghost use Rattle.collect_core.specs.Seen.{HasSeen, IsFed, IsStep};
 
 use crate::Job;
-use acct_types::{Datagram, FlowRecord, List, NoMemory, Octets};
+use crate::loads::loads_of;
+use acct_types::{Datagram, FlowRecord, Item, List, NoMemory};
 use flow_decode::{Decoder, FeedFault};
 use flow_templates::Notice;
-use out_text::{Event, Totals, event_text};
+use out_text::{Event, Totals};
 use std::alloc::Global;
 
 /// What is kept between datagrams: what the decoder knows, and what was counted.
@@ -23,18 +25,27 @@ pub struct Core {
     pub totals: Totals,
 }
 
-// Appends the notices of the datagram with this number.
-fn append_notices(text: &mut Octets, number: u64, notices: &[Notice]) -> Result<(), NoMemory>
-    ensures { OnOk result (text.new ≡ text.old ++ events_text (map (event.Notice number) notices.now)) }
+/// What a datagram gives: the events that are told of it before any drop, the items with the number of their plugin (from 0, in the
+/// configuration's order), in order of record and then plugin, and whether it has more records than were asked for.
+#[derive(Drop)]
+pub struct CoreStep {
+    pub events: List<Event>,
+    pub loads: List<(u32, Item)>,
+    pub full: bool,
+}
+
+// The notices of the datagram with this number.
+fn notices_of(alloc: Global, number: u64, notices: &[Notice]) -> Result<List<Event>, NoMemory>
+    ensures { IfOk result (λ events. events ≡ map (event.Notice number) notices.now) }
 {
+    let mut events = List::from_vec(Vec::with_capacity(alloc, notices.len())?);
     for notice in notices {
-        let event = Event::Notice {
+        events.push(Event::Notice {
             datagram: number,
             notice: *notice,
-        };
-        event_text(&event, text)?;
+        })?;
     }
-    Ok(())
+    Ok(events)
 }
 
 impl Core {
@@ -58,19 +69,19 @@ impl Core {
         }
     }
 
-    /// The records of the next datagram, none of one that is refused. What the audit tells of it is appended to the text.
-    pub fn feed(
+    // The records of the next datagram, none of one that is refused, and what the audit tells of it.
+    fn feed(
         &mut self,
         job: &Job,
         datagram: &Datagram,
-        text: &mut Octets,
-    ) -> Result<List<FlowRecord>, NoMemory>
+    ) -> Result<(List<FlowRecord>, List<Event>), NoMemory>
         requires fits { length datagram.now.octets ≤ 65535 }
         requires datagrams { self.old.totals.datagrams < 2 ^ 64 - 1 }
         requires refused { self.old.totals.refused ≤ self.old.totals.datagrams }
-        ensures fed { (flows : Sequence Datagram) → HasSeen job.now flows self.old → IfOk result (λ rows. IsFed job.now flows datagram.now self.new rows text.old text.new) }
-        ensures small { IfOk result (λ rows. All (λ flow. IsBelow (2 ^ 96) flow.counts) rows) }
-        ensures few { IfOk result (λ rows. length rows ≤ length datagram.now.octets) }
+        ensures fed { (flows : Sequence Datagram) → HasSeen job.now flows self.old → IfOk result (λ fed. IsFed job.now flows datagram.now self.new fed.0 fed.1) }
+        ensures small { IfOk result (λ fed. All (λ flow. IsBelow (2 ^ 96) flow.counts) fed.0) }
+        ensures few { IfOk result (λ fed. length fed.0 ≤ length datagram.now.octets) }
+        ensures named { IfOk result (λ fed. All IsNamed fed.1) }
         ensures datagrams { OnOk result (self.new.totals.datagrams ≡ self.old.totals.datagrams + 1) }
         ensures refused { OnOk result (self.new.totals.refused ≤ self.new.totals.datagrams) }
         ensures records { OnOk result (self.new.totals.records ≡ self.old.totals.records) }
@@ -79,21 +90,58 @@ impl Core {
         let number = self.totals.datagrams + 1;
         match self.decoder.feed(datagram, &job.samplings) {
             Ok(decoded) => {
-                append_notices(text, number, decoded.notices.as_slice())?;
+                let events = notices_of(self.alloc, number, decoded.notices.as_slice())?;
                 self.totals.datagrams = number;
-                Ok(decoded.rows)
+                Ok((decoded.rows, events))
             }
             Err(FeedFault::Refused(cause)) => {
                 let event = Event::Refused {
                     datagram: number,
                     cause,
                 };
-                event_text(&event, text)?;
+                let mut events = List::new(self.alloc);
+                events.push(event)?;
                 self.totals.datagrams = number;
                 self.totals.refused += 1;
-                Ok(List::new(self.alloc))
+                Ok((List::new(self.alloc), events))
             }
             Err(FeedFault::NoMemory) => Err(NoMemory),
         }
+    }
+
+    /// The step of the next datagram, with the loads of its first `most` records. After NoMemory the core isn't used again.
+    pub fn datagram(
+        &mut self,
+        job: &Job,
+        datagram: &Datagram,
+        most: u64,
+    ) -> Result<CoreStep, NoMemory>
+        requires fits { length datagram.now.octets ≤ 65535 }
+        requires datagrams { self.old.totals.datagrams < 2 ^ 64 - 1 }
+        requires refused { self.old.totals.refused ≤ self.old.totals.datagrams }
+        requires records { self.old.totals.records + most < 2 ^ 64 }
+        ensures step { (flows : Sequence Datagram) → HasSeen job.now flows self.old → IfOk result (IsStep job.now flows datagram.now most self.old self.new) }
+        ensures named { IfOk result (λ step. All IsNamed step.events) }
+        ensures numbered { IfOk result (λ step. All (λ load. load.0 < length job.now.config.plugins) step.loads) }
+        ensures few { IfOk result (λ step. (number : ℕ) → length (given_to number step.loads) ≤ most) }
+        ensures datagrams { OnOk result (self.new.totals.datagrams ≡ self.old.totals.datagrams + 1) }
+        ensures refused { OnOk result (self.new.totals.refused ≤ self.new.totals.datagrams) }
+        ensures others { OnOk result ((self.new.totals.dropped ≡ self.old.totals.dropped) × (self.new.totals.messages ≡ self.old.totals.messages) × (self.new.totals.closed ≡ self.old.totals.closed)) }
+    {
+        let (rows, events) = self.feed(job, datagram)?;
+        let count = rows.len().min(most as usize);
+        let loads = loads_of(
+            self.alloc,
+            job,
+            self.totals.datagrams,
+            datagram.moment,
+            &rows.as_slice()[..count],
+        )?;
+        self.totals.records += count as u64;
+        Ok(CoreStep {
+            events,
+            loads,
+            full: count < rows.len(),
+        })
     }
 }

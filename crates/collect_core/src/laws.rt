@@ -1,6 +1,7 @@
-//! Laws of the courses that runs may take.
+//! Laws of the courses that runs may take, and of loads.
 
 ghost use Rattle.collect_core.specs.Lawful.{DropsConserve, UnroutedIsLawful};
+ghost use Rattle.collect_core.specs.Loads.{LoadsAreEntries, LoadsAreNumbered};
 
 use acct_types::counts_add_up;
 
@@ -16,3 +17,15 @@ pub fn drops_conserve()
 {
     counts_add_up();
 }
+
+/// A law: the loads with a plugin's number are its entries, in their order.
+#[tactic(auto, using(crate::proofs::LoadLemmas::loads_are_entries))]
+pub fn loads_are_entries()
+    ensures { LoadsAreEntries }
+{}
+
+/// A law: each load has the number of a plugin.
+#[tactic(auto, using(crate::proofs::LoadLemmas::loads_are_numbered))]
+pub fn loads_are_numbered()
+    ensures { LoadsAreNumbered }
+{}

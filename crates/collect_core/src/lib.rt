@@ -2,18 +2,22 @@
 #![tactic(auto)]
 
 mod collector;
+mod give;
 mod job;
 mod laws;
 mod limits;
+mod loads;
 mod log;
 mod plugins;
-mod rows;
 mod run;
 mod running;
 #[cfg(test)]
 mod tests;
 
+pub use collector::{Core, CoreStep};
 pub use job::{Job, collects};
-pub use laws::{drops_conserve, runs_without_routes_are_lawful};
+pub use laws::{
+    drops_conserve, loads_are_entries, loads_are_numbered, runs_without_routes_are_lawful,
+};
 pub use limits::Limits;
 pub use run::{RunEnd, run_alone};

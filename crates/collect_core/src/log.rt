@@ -1,10 +1,12 @@
 //! The audit of a run, as it is written.
 
-ghost use Rattle.std.specs.Prelude.{◌≡◌, ◌++◌, [], List as Sequence, ℕ};
+ghost use Rattle.std.specs.Prelude.{◌≡◌, ◌++◌, [], List as Sequence, ℕ, All, OnOk};
+ghost use Rattle.out_text.specs.Events.{IsNamed, events_text};
 ghost use Rattle.plugin_work.specs.Sinks.{IsWritten};
 ghost use Rattle.outside_io.specs.States.{SinkState};
 
-use acct_types::Octets;
+use acct_types::{NoMemory, Octets};
+use out_text::{Event, event_text};
 use outside_io::{IoFault, OutEnd, Sink, write_all};
 use std::alloc::Global;
 
@@ -25,6 +27,17 @@ fn write_text<A: Sink>(audit: &mut A, text: &[u8]) -> OutEnd
         Err(IoFault::Failed) => OutEnd::Failed,
         Err(IoFault::NoMemory) => OutEnd::Memory,
     }
+}
+
+/// Appends the lines of events.
+pub fn append_events(text: &mut Octets, events: &[Event]) -> Result<(), NoMemory>
+    requires { All IsNamed events.now }
+    ensures { OnOk result (text.new ≡ text.old ++ events_text events.now) }
+{
+    for event in events {
+        event_text(event, text)?;
+    }
+    Ok(())
 }
 
 impl Log {

@@ -148,7 +148,7 @@ fn run_flows<F: Datagrams, W: Sink, A: Sink>(
     ensures calls { (answers : Sequence Answer) × Calls F.call flows.old flows.new answers }
 {
     let mut running = begin(alloc, hashing, job, outs, limits)?;
-    let flow = take_all(alloc, job, flows, &mut running, audit, limits)?;
+    let flow = take_all(job, flows, &mut running, audit, limits)?;
     finish(alloc, running, flow, audit)
 }
 

@@ -12,11 +12,10 @@ ghost use Rattle.collect_core.specs.Job.{collects};
 ghost use Rattle.collect_core.specs.Most.{most_in};
 ghost use Rattle.collect_core.specs.Running.{GoesOn, HasRoom, HasRun, HasTakenAll, Stops};
 
-use crate::collector::Core;
-use crate::log::Log;
+use crate::give::give_loads;
+use crate::log::{Log, append_events};
 use crate::plugins::start_plugins;
-use crate::rows::give_rows;
-use crate::{Job, Limits};
+use crate::{Core, CoreStep, Job, Limits};
 use acct_types::{Addr, Datagram, Hashing, List, NoMemory};
 use outside_io::{
     Datagrams, InputFault, SideEnd, Sink, Which, adjoining_spans_join, calls_of_datagrams_join,
@@ -70,7 +69,6 @@ fn event_octets(datagram: &Datagram) -> u64
 
 // Counts the next datagram, and says whether the records are more than the limit by it. Its lines are written before this returns.
 fn take_datagram<W: Sink, A: Sink>(
-    alloc: Global,
     job: &Job,
     running: &mut Running<W>,
     audit: &mut A,
@@ -89,27 +87,20 @@ fn take_datagram<W: Sink, A: Sink>(
         → IfOk result (λ passes. IsTrue passes ↔ limits.now.records < length (records_of job.now (flows ++ datagram.now ∷ []))) }
     ensures left { running.new.left ≡ running.old.left }
 {
-    let rows = running
-        .collector
-        .feed(job, datagram, &mut running.log.text)?;
-    running.log.write(audit);
     let room = limits.records - running.collector.totals.records;
-    let count = rows.len().min(room as usize);
-    give_rows(
-        alloc,
-        job,
-        &mut running.plugins,
-        running.collector.totals.datagrams,
-        datagram.moment,
-        &rows.as_slice()[..count],
-    )?;
-    running.collector.totals.records += count as u64;
-    Ok(count < rows.len())
+    let CoreStep {
+        events,
+        loads,
+        full,
+    } = running.collector.datagram(job, datagram, room)?;
+    append_events(&mut running.log.text, events.as_slice())?;
+    running.log.write(audit);
+    give_loads(&mut running.plugins, loads);
+    Ok(full)
 }
 
 // Takes the next datagram where its event has room, and says which limit it passes.
 fn take_next<W: Sink, A: Sink>(
-    alloc: Global,
     job: &Job,
     running: &mut Running<W>,
     audit: &mut A,
@@ -134,7 +125,7 @@ fn take_next<W: Sink, A: Sink>(
         return Ok(Some(Which::Octets));
     }
     running.left -= octets;
-    let passes = take_datagram(alloc, job, running, audit, limits, datagram)?;
+    let passes = take_datagram(job, running, audit, limits, datagram)?;
     Ok(if passes { Some(Which::Records) } else { None })
 }
 
@@ -152,7 +143,6 @@ fn ended_by(fault: InputFault) -> Result<SideEnd, NoMemory>
 
 /// Takes datagrams until the input ends or a limit is passed.
 pub fn take_all<F: Datagrams, W: Sink, A: Sink>(
-    alloc: Global,
     job: &Job,
     flows: &mut F,
     running: &mut Running<W>,
@@ -177,7 +167,7 @@ pub fn take_all<F: Datagrams, W: Sink, A: Sink>(
             Ok(None) => return Ok(SideEnd::Ended),
             Err(fault) => return ended_by(fault),
         };
-        if let Some(which) = take_next(alloc, job, running, audit, limits, &datagram)? {
+        if let Some(which) = take_next(job, running, audit, limits, &datagram)? {
             return Ok(SideEnd::TooMany(which));
         }
     }

@@ -4,7 +4,7 @@ ghost use Rattle.std.specs.Prelude.{◌≡◌, None, false, true, IsTrue};
 ghost use Rattle.collect_core.specs.Job.{collects};
 
 use crate::job::collects;
-use crate::{Job, Limits, RunEnd, run_alone};
+use crate::{Core, Job, Limits, RunEnd, run_alone};
 use acct_types::{Addr, Counts, Datagram, Hashing, List, NoMemory, Octets};
 use config_keys::{Config, Tool, read_config};
 use out_text::Totals;
@@ -779,5 +779,63 @@ fn lines_are_written_before_the_next_datagram_is_asked_for(rt: HostRuntime) -> R
     assert_eq!(rt; end.totals.refused, 3);
     // and behind them the last line
     assert_eq!(rt; written.load(Ordering::SeqCst), 64);
+    Ok(())
+}
+
+// How many events are told of a datagram, the plugin and the row of each of its loads, and whether it has more records.
+type Step = (usize, &'static [(u32, u32)], bool);
+
+// Of which datagram so many records are asked for.
+const STEPS: &[(Content, u64, Step)] = &[
+    (
+        Content::From(&[1, 2]),
+        1,
+        (0, &[(0, 1), (1, 1), (2, 1)], true),
+    ),
+    (
+        Content::From(&[1, 2]),
+        2,
+        (0, &[(0, 1), (1, 1), (2, 1), (0, 2), (1, 2), (2, 2)], false),
+    ),
+    (Content::From(&[1, 2]), 0, (0, &[], true)),
+    (
+        Content::Alone(NOTICED),
+        1,
+        (2, &[(0, 1), (1, 1), (2, 1)], true),
+    ),
+    (Content::Alone(b""), 1, (1, &[], false)),
+];
+
+fn is_step(
+    alloc: Global,
+    job: &Job,
+    content: Content,
+    most: u64,
+    wanted: Step,
+) -> Result<bool, Fail> {
+    let datagram = datagram(alloc, (FIRST, 1_000, content))?;
+    if !collects(job.config.tool) || datagram.octets.len() > 65_535 {
+        return Err("there is no such step".into());
+    }
+    let step = Core::new(alloc, job).datagram(job, &datagram, most)?;
+    let (events, loads, full) = wanted;
+    if step.events.len() != events || step.loads.len() != loads.len() || step.full != full {
+        return Ok(false);
+    }
+    for ((number, item), (plugin, row)) in step.loads.as_slice().iter().zip(loads) {
+        if number != plugin || item.row != *row {
+            return Ok(false);
+        }
+    }
+    Ok(true)
+}
+
+#[test]
+fn a_datagram_gives_its_events_and_loads(rt: HostRuntime) -> Result<(), Fail> {
+    let alloc = rt.alloc();
+    let job = job(alloc, THREE)?;
+    for (content, most, wanted) in STEPS {
+        assert!(rt; is_step(alloc, &job, *content, *most, *wanted)?);
+    }
     Ok(())
 }
