@@ -98,11 +98,17 @@ room_for_one states between all yielded rest load most d room so_far is here =
     let n = load.0 in
     let within : n < length states = omega (arith, here, so_far.many) in
     let one : given_to n (load ∷ []) ≡ load.1 ∷ [] = given_one n load ∙ ap (λ (b : Bool). if b then load.1 ∷ [] else []) (eq-eqb n n refl) in
-    omega (arith, room n d within, so_far.taken n d within,
-    ap (λ (loads : List (ℕ × Item)). length (given_to n loads)) is,
-    ap (λ (items : List Item). length items) (given_append n (yielded ++ load ∷ []) rest), length-append (given_to n (yielded ++ load ∷ [])) (given_to n rest),
-    ap (λ (items : List Item). length items) (given_append n yielded (load ∷ [])), length-append (given_to n yielded) (given_to n (load ∷ [])),
-    ap (λ (items : List Item). length items) one)
+    omega (
+      arith,
+      room n d within,
+      so_far.taken n d within,
+      ap (λ (loads : List (ℕ × Item)). length (given_to n loads)) is,
+      ap (λ (items : List Item). length items) (given_append n (yielded ++ load ∷ []) rest),
+      length-append (given_to n (yielded ++ load ∷ [])) (given_to n rest),
+      ap (λ (items : List Item). length items) (given_append n yielded (load ∷ [])),
+      length-append (given_to n yielded) (given_to n (load ∷ [])),
+      ap (λ (items : List Item). length items) one,
+    )
 
 -- plugins that took the items of more entries are given these
 pub all_given : (plugins : List PluginConfig) (starts : List SinkState) (earlier more : PluginConfig → List Entry) (items : ℕ → List Item) (old new : List PluginState) → Take old new items
@@ -118,11 +124,11 @@ all_given (plugin ∷ plugins) (start ∷ starts) earlier more items (before ∷
     taken = taken.each 0 before plugin start given.0.items (omega arith) given.0.taken;
   },
   all_given plugins starts earlier more (λ place. items (suc place)) old new
-  (record {
-    many = omega (arith, taken.many);
-    each = λ place d config from items_before within had. taken.each (suc place) d config from items_before (omega (arith, within)) had;
-    taken = λ place d within. taken.taken (suc place) d (omega (arith, within));
-  })
-  (λ place p there. are (suc place) p there) given.1,
+      (record {
+        many = omega (arith, taken.many);
+        each = λ place d config from items_before within had. taken.each (suc place) d config from items_before (omega (arith, within)) had;
+        taken = λ place d within. taken.taken (suc place) d (omega (arith, within));
+      })
+      (λ place p there. are (suc place) p there) given.1,
 )
 all_given plugins starts earlier more items old new taken are given = absurd given

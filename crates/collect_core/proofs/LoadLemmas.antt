@@ -87,8 +87,11 @@ one_at_most job course number place (plugin ∷ plugins) datagram moment row flo
     by : (b : Bool) → (place == number) ≡ b → length (given_to number others) ≤ 1 → length (given_to number (load ∷ others)) ≤ 1
     by true is few =
         let at : place ≡ number = eqb-true place number is in
-        omega (arith, ap (λ (entries : List Entry). length entries) (given_here number load others at),
-        ap (λ (entries : List Entry). length entries) (none_before job course number (place + 1) plugins datagram moment row flow (omega (arith, at))))
+        omega (
+          arith,
+          ap (λ (entries : List Entry). length entries) (given_here number load others at),
+          ap (λ (entries : List Entry). length entries) (none_before job course number (place + 1) plugins datagram moment row flow (omega (arith, at))),
+        )
     by false is few = omega (arith, ap (λ (entries : List Entry). length entries) (given_elsewhere number load others (eqb-false place number is)), few)
 
 -- each has the number of one of the plugins
@@ -114,8 +117,13 @@ few_from job course number datagram moment row [] = omega arith
 few_from job course number datagram moment row (flow ∷ flows) =
     let first = loads_for job course 0 job.config.plugins datagram moment row flow in
     let others = loads_from job course datagram moment (row + 1) flows in
-    omega (arith, ap (λ (entries : List Entry). length entries) (given_append number first others), length-append (given_to number first) (given_to number others),
-    one_at_most job course number 0 job.config.plugins datagram moment row flow, few_from job course number datagram moment (row + 1) flows)
+    omega (
+      arith,
+      ap (λ (entries : List Entry). length entries) (given_append number first others),
+      length-append (given_to number first) (given_to number others),
+      one_at_most job course number 0 job.config.plugins datagram moment row flow,
+      few_from job course number datagram moment (row + 1) flows,
+    )
 
 numbered_from : (job : Job) (course : Course) (datagram moment row : ℕ) (flows : List FlowRecord) → All (λ (load : ℕ × Entry). load.0 < length job.config.plugins) (loads_from job course datagram moment row flows)
 numbered_from job course datagram moment row [] = All-nil (λ (load : ℕ × Entry). load.0 < length job.config.plugins)
@@ -210,5 +218,8 @@ are_numbered job course datagram moment rows loads are =
 pub are_few : (job : Job) (course : Course) (datagram moment : ℕ) (rows : List FlowRecord) (loads : List (ℕ × Item)) (number : ℕ) → map load_entry loads ≡ loads_from job course datagram moment 1 rows
     → length (given_to number loads) ≤ length rows
 are_few job course datagram moment rows loads number are =
-    omega (arith, few_from job course number datagram moment 1 rows,
-    sym (length-map (given_to number loads) entry_of) ∙ ap (λ (entries : List Entry). length entries) (given_entries number loads ∙ ap (given_to number) are))
+    omega (
+      arith,
+      few_from job course number datagram moment 1 rows,
+      sym (length-map (given_to number loads) entry_of) ∙ ap (λ (entries : List Entry). length entries) (given_entries number loads ∙ ap (given_to number) are),
+    )
