@@ -5,7 +5,7 @@ use Rattle.std.proofs.lemmas.List.{append-nil}
 use Rattle.acct_types.specs.declared.datagram.Datagram.{Datagram}
 use Rattle.capture_file.specs.Capture.{datagrams_of, end_of}
 use Rattle.collect_core.specs.declared.job.Job.{Job}
-use Rattle.collect_core.specs.Due.{all_behind, records_in, records_of, rows_in}
+use Rattle.collect_core.specs.Due.{decoded_in, over_all, records_in, records_of, rows_in}
 use Rattle.collect_core.specs.Flows.{fitting, up_to_limit}
 use Rattle.collect_core.specs.Job.{renormalises}
 use Rattle.collect_core.specs.Most.{FULL}
@@ -21,7 +21,6 @@ use Rattle.outside_io.specs.declared.ends.SideEnd.{SideEnd}
 use Rattle.outside_io.specs.declared.ends.SideEnd.TheVariants as side
 use Rattle.outside_io.specs.declared.ends.Which.TheVariants as which
 use Rattle.plugin_work.specs.Output.{texts_of}
-use Rattle.pretag_map.specs.SamplingLines.{SamplingLine}
 use Rattle.acct_top.specs.declared.answer.AnyCause.{AnyCause}
 use Rattle.acct_top.specs.declared.answer.Answer.{Answer}
 use Rattle.acct_top.specs.declared.answer.Answer.TheVariants.{Done, Usage, ConfigRefused, OpenFault, FlowFault, CaptureTorn, CaptureBad, WriteFault, SayFault, TooMany, NoMemory}
@@ -76,17 +75,17 @@ one_job tool words names some other a b =
     same_job some other tool a.file names a.is_job (subst (λ (f : List ℕ). IsJob other tool f names) (sym (same_file tool words a.file b.file a.named b.named)) b.is_job)
 
 module _ (some other : Job) (same : IsSameJob some other) where
-  same_capture : capture_of some ≡ capture_of other
+  pub same_capture : capture_of some ≡ capture_of other
   same_capture = ap (λ (c : ConfigSays). unwrap_or c.acct_flow_capture []) same.config
 
-  same_records_in : (earlier : List Datagram) (d : Datagram) → records_in some earlier d ≡ records_in other earlier d
-  same_records_in earlier d =
-      ap (λ (c : ConfigSays). rows_in (answer_of (renormalises c) some.samplings (decoded_behind c.tool earlier d))) same.config
-      ∙ ap (λ (lines : List SamplingLine). rows_in (answer_of (renormalises (says other.config)) lines (decoded_behind other.config.tool earlier d))) same.samplings
+  pub same_decoded : (earlier : List Datagram) (d : Datagram) → decoded_in some earlier d ≡ decoded_in other earlier d
+  same_decoded earlier d = λ i. answer_of (renormalises (same.config i)) (same.samplings i) (decoded_behind (same.config i).tool earlier d)
 
-  same_behind : (earlier flows : List Datagram) → all_behind (records_in some) earlier flows ≡ all_behind (records_in other) earlier flows
-  same_behind earlier [] = refl
-  same_behind earlier (d ∷ later) = λ i. same_records_in earlier d i ++ same_behind (d ∷ earlier) later i
+  pub same_records_in : (earlier : List Datagram) (d : Datagram) → records_in some earlier d ≡ records_in other earlier d
+  same_records_in earlier d = ap rows_in (same_decoded earlier d)
+
+  pub same_records_of : (flows : List Datagram) → records_of some flows ≡ records_of other flows
+  same_records_of flows = λ i. over_all (λ earlier d. same_records_in earlier d i) flows
 
   same_limit : (most : ℕ) (earlier flows : List Datagram) → up_to_limit some most earlier flows ≡ up_to_limit other most earlier flows
   same_limit most earlier [] = refl
@@ -94,13 +93,13 @@ module _ (some other : Job) (same : IsSameJob some other) where
       ap (λ (ds : List Datagram). d ∷ (if nat_lt most (length (records_in some earlier d)) then [] else ds)) (same_limit (most - length (records_in some earlier d)) (d ∷ earlier) later)
       ∙ ap (λ (count : ℕ). d ∷ (if nat_lt most count then [] else up_to_limit other (most - count) (d ∷ earlier) later)) (ap length (same_records_in earlier d))
 
-  same_flows : (octets : List ℕ) → flows_of some octets ≡ flows_of other octets
+  pub same_flows : (octets : List ℕ) → flows_of some octets ≡ flows_of other octets
   same_flows octets = same_limit FULL.records [] (fitting FULL.octets (datagrams_of FULL.octets octets))
 
   same_end : (octets : List ℕ) → flow_end some octets ≡ flow_end other octets
   same_end octets =
       ap (λ (count : ℕ). if nat_lt FULL.records count then side.TooMany which.Records else side_end (end_of FULL.octets octets))
-      (ap (λ (ds : List Datagram). length (records_of some ds)) (same_flows octets) ∙ ap length (same_behind [] (flows_of other octets)))
+      (ap (λ (ds : List Datagram). length (records_of some ds)) (same_flows octets) ∙ ap length (same_records_of (flows_of other octets)))
 
 -- ---- the answers that are owed
 
@@ -120,7 +119,7 @@ one_end tool words names job octets end a there e =
     same_end job e.0 same octets ∙ ap (flow_end e.0) one ∙ e.2.2
 
 -- what the capture had before the words were read
-capture_was : (job : Job) (before begun after : PlaceState) (octets rest : List ℕ) → begun.names ≡ before.names → IsTaken job begun after octets rest → before.names (capture_of job) ≡ Some (octets ++ rest)
+pub capture_was : (job : Job) (before begun after : PlaceState) (octets rest : List ℕ) → begun.names ≡ before.names → IsTaken job begun after octets rest → before.names (capture_of job) ≡ Some (octets ++ rest)
 capture_was job before begun after octets rest same taken = sym (ap (λ (n : Names). n (capture_of job)) same) ∙ taken.capture
 
 -- a run that took a whole capture, which ended

@@ -178,6 +178,11 @@ Holds (ConfigRefused name line cause) tool words before after = IsConfigRefused 
 Holds Usage tool words before after = ((file : List ℕ) → NamesFile tool words file → ⊥) × (after ≡ before)
 Holds NoMemory tool words before after = ⊤
 
+-- words and files have one outcome: two runs that are done leave the same in every file
+abbrev pub HaveOneOutcome : Type 0
+HaveOneOutcome = (tool : Tool) (words : List (List ℕ)) (before after other_before other_after : PlaceState) → before.names ≡ other_before.names
+    → Holds Done tool words before after → Holds Done tool words other_before other_after → after.names ≡ other_after.names
+
 -- A name that is no output of the words' configuration has what it had.
 abbrev pub LeavesOthers : Tool → List (List ℕ) → Names → Names → Type 0
 LeavesOthers tool words before after =

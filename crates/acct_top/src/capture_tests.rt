@@ -247,9 +247,14 @@ static BEHIND: [Case; 8] = [
     ),
 ];
 
+// The proof of a test needn't read its table: a function hands it out.
+fn behind() -> &'static [Case] {
+    &BEHIND
+}
+
 #[test]
 fn what_stands_behind_a_fault_is_not_read(rt: HostRuntime) -> Result<(), Fail> {
-    let found = first_difference(rt.alloc(), &BEHIND)?;
+    let found = first_difference(rt.alloc(), behind())?;
     assert_eq!(rt; found, (8, b"none".as_slice()));
     Ok(())
 }

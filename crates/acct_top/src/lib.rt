@@ -15,7 +15,7 @@ mod top;
 pub use answer::{Answer, AnyCause, BadCause, status};
 pub use in_memory::account_in_memory;
 pub use say::say_answer;
-pub use top::{account_alone, one_job};
+pub use top::{account_alone, one_job, one_outcome};
 
 #[cfg(test)]
 mod capture_tests;

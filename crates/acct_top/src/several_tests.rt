@@ -163,9 +163,14 @@ SRC_IP,PACKETS,BYTES\n10.0.0.1,10,840\n",
     ),
 ];
 
+// The proof of a test needn't read its table: a function hands it out.
+fn full_caches() -> &'static [Case] {
+    &FULL_CACHES
+}
+
 #[test]
 fn a_full_cache_is_purged_by_each_plugin_for_itself(rt: HostRuntime) -> Result<(), Fail> {
-    let found = first_difference(rt.alloc(), &FULL_CACHES)?;
+    let found = first_difference(rt.alloc(), full_caches())?;
     assert_eq!(rt; found, (5, b"none".as_slice()));
     Ok(())
 }
@@ -325,9 +330,13 @@ WINDOW,PACKETS,BYTES\n120000,10,840\n",
     ),
 ];
 
+fn windows() -> &'static [Case] {
+    &WINDOWS
+}
+
 #[test]
 fn windows_cut_by_moments_that_never_go_back(rt: HostRuntime) -> Result<(), Fail> {
-    let found = first_difference(rt.alloc(), &WINDOWS)?;
+    let found = first_difference(rt.alloc(), windows())?;
     assert_eq!(rt; found, (11, b"none".as_slice()));
     Ok(())
 }
@@ -463,9 +472,13 @@ acct_memory_file[m]: m.txt\n",
     ),
 ];
 
+fn memory() -> &'static [Case] {
+    &MEMORY
+}
+
 #[test]
 fn a_memory_plugin_writes_one_purge_anew(rt: HostRuntime) -> Result<(), Fail> {
-    let found = first_difference(rt.alloc(), &MEMORY)?;
+    let found = first_difference(rt.alloc(), memory())?;
     assert_eq!(rt; found, (6, b"none".as_slice()));
     Ok(())
 }
@@ -649,6 +662,10 @@ static UNWRITTEN: [Case; 9] = [
     ),
 ];
 
+fn unwritten() -> &'static [Case] {
+    &UNWRITTEN
+}
+
 static UNCLOSED: [Case; 10] = [
     // An output without text, too, is closed, and that may fail.
     (
@@ -751,11 +768,15 @@ static UNCLOSED: [Case; 10] = [
     ),
 ];
 
+fn unclosed() -> &'static [Case] {
+    &UNCLOSED
+}
+
 #[test]
 fn the_first_output_that_failed_is_named(rt: HostRuntime) -> Result<(), Fail> {
-    let found = first_difference(rt.alloc(), &UNWRITTEN)?;
+    let found = first_difference(rt.alloc(), unwritten())?;
     assert_eq!(rt; found, (9, b"none".as_slice()));
-    let found = first_difference(rt.alloc(), &UNCLOSED)?;
+    let found = first_difference(rt.alloc(), unclosed())?;
     assert_eq!(rt; found, (10, b"none".as_slice()));
     Ok(())
 }
@@ -851,9 +872,13 @@ static UNOPENED: [Case; 7] = [
     ),
 ];
 
+fn unopened() -> &'static [Case] {
+    &UNOPENED
+}
+
 #[test]
 fn an_output_that_is_not_opened_leaves_those_before_it_begun(rt: HostRuntime) -> Result<(), Fail> {
-    let found = first_difference(rt.alloc(), &UNOPENED)?;
+    let found = first_difference(rt.alloc(), unopened())?;
     assert_eq!(rt; found, (7, b"none".as_slice()));
     Ok(())
 }
@@ -958,9 +983,13 @@ static READS: [Case; 7] = [
     ),
 ];
 
+fn reads() -> &'static [Case] {
+    &READS
+}
+
 #[test]
 fn a_read_that_fails_leaves_what_was_read(rt: HostRuntime) -> Result<(), Fail> {
-    let found = first_difference(rt.alloc(), &READS)?;
+    let found = first_difference(rt.alloc(), reads())?;
     assert_eq!(rt; found, (7, b"none".as_slice()));
     Ok(())
 }
@@ -1129,9 +1158,13 @@ static PLUGINS: [Case; 6] = [
     ),
 ];
 
+fn plugins() -> &'static [Case] {
+    &PLUGINS
+}
+
 #[test]
 fn up_to_eight_plugins_count_each_for_itself(rt: HostRuntime) -> Result<(), Fail> {
-    let found = first_difference(rt.alloc(), &PLUGINS)?;
+    let found = first_difference(rt.alloc(), plugins())?;
     assert_eq!(rt; found, (6, b"none".as_slice()));
     Ok(())
 }

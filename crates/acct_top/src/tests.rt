@@ -700,132 +700,148 @@ fn first_difference(alloc: Global, cases: &[Refused]) -> Result<(usize, &'static
     Ok((cases.len(), "none"))
 }
 
+static CAUSES: [Refused; 8] = [
+    (&[], LACKING, MISSING_KEY),
+    (&[(65_536, SIXTEEN)], LACKING, MISSING_KEY),
+    (&[(65_536, SIXTEEN), (1, b"!")], Kind::TooLong, TOO_LONG),
+    (
+        &[
+            (1, FIRST_LINES),
+            (1, b"print_output[q]: csv\n"),
+            (1, FOURTH_LINE),
+            (1, LAST_LINES),
+        ],
+        Kind::Refused(3, ConfigCause::UnknownPlugin),
+        b"nfacctd: nfacctd.conf:3: unknown-plugin\n",
+    ),
+    (
+        &[(1, CONFIG), (1, b"print_outputs: csv\n")],
+        Kind::Refused(9, ConfigCause::UnknownKey),
+        b"nfacctd: nfacctd.conf:9: unknown-key\n",
+    ),
+    (
+        &[(1, CONFIG), (1, b"\nnfacctd_port: 65536")],
+        Kind::Refused(10, ConfigCause::BadValue),
+        b"nfacctd: nfacctd.conf:10: bad-value\n",
+    ),
+    (
+        &[(1, CONFIG), (1, b"acct_threads: true\n")],
+        Kind::Refused(9, ConfigCause::Repeated),
+        b"nfacctd: nfacctd.conf:9: repeated\n",
+    ),
+    (
+        &[
+            (1, NO_NAMES),
+            (1, b"print_output_file: p.csv\nacct_flow_capture: p.csv\n"),
+        ],
+        SHARED,
+        SAME_NAME,
+    ),
+];
+
+// The proof of a test needn't read its table: a function hands it out.
+fn causes() -> &'static [Refused] {
+    &CAUSES
+}
+
 #[test]
 fn each_cause_is_told_with_its_line(rt: HostRuntime) -> Result<(), Fail> {
-    let cases: [Refused; 8] = [
-        (&[], LACKING, MISSING_KEY),
-        (&[(65_536, SIXTEEN)], LACKING, MISSING_KEY),
-        (&[(65_536, SIXTEEN), (1, b"!")], Kind::TooLong, TOO_LONG),
-        (
-            &[
-                (1, FIRST_LINES),
-                (1, b"print_output[q]: csv\n"),
-                (1, FOURTH_LINE),
-                (1, LAST_LINES),
-            ],
-            Kind::Refused(3, ConfigCause::UnknownPlugin),
-            b"nfacctd: nfacctd.conf:3: unknown-plugin\n",
-        ),
-        (
-            &[(1, CONFIG), (1, b"print_outputs: csv\n")],
-            Kind::Refused(9, ConfigCause::UnknownKey),
-            b"nfacctd: nfacctd.conf:9: unknown-key\n",
-        ),
-        (
-            &[(1, CONFIG), (1, b"\nnfacctd_port: 65536")],
-            Kind::Refused(10, ConfigCause::BadValue),
-            b"nfacctd: nfacctd.conf:10: bad-value\n",
-        ),
-        (
-            &[(1, CONFIG), (1, b"acct_threads: true\n")],
-            Kind::Refused(9, ConfigCause::Repeated),
-            b"nfacctd: nfacctd.conf:9: repeated\n",
-        ),
-        (
-            &[
-                (1, NO_NAMES),
-                (1, b"print_output_file: p.csv\nacct_flow_capture: p.csv\n"),
-            ],
-            SHARED,
-            SAME_NAME,
-        ),
-    ];
-    let found = first_difference(rt.alloc(), &cases)?;
+    let found = first_difference(rt.alloc(), causes())?;
     assert_eq!(rt; found, (8, "none"));
     Ok(())
 }
 
-#[test]
-fn what_is_not_built_yet_is_refused_at_no_line(rt: HostRuntime) -> Result<(), Fail> {
-    let cases: [Refused; 8] = [
-        (
-            &[(1, CONFIG), (1, b"bgp_agent_map: agents.map\n")],
-            NOTHING_BUILT,
-            NOT_IN_PROFILE,
-        ),
-        (
-            &[
-                (1, CONFIG),
-                (1, b"bgp_daemon: true\nacct_route_capture: routes.cap\n"),
-            ],
-            NOTHING_BUILT,
-            NOT_IN_PROFILE,
-        ),
-        (
-            &[
-                (1, CONFIG),
-                (1, b"bmp_daemon: true\nacct_route_capture: routes.cap\n"),
-            ],
-            NOTHING_BUILT,
-            NOT_IN_PROFILE,
-        ),
-        // With other plugins likewise.
-        (
-            &[(
-                1,
-                b"plugins: print[p], memory\nprint_output_file[p]: p.csv\nacct_memory_file: m.txt\n\
+static UNBUILT: [Refused; 8] = [
+    (
+        &[(1, CONFIG), (1, b"bgp_agent_map: agents.map\n")],
+        NOTHING_BUILT,
+        NOT_IN_PROFILE,
+    ),
+    (
+        &[
+            (1, CONFIG),
+            (1, b"bgp_daemon: true\nacct_route_capture: routes.cap\n"),
+        ],
+        NOTHING_BUILT,
+        NOT_IN_PROFILE,
+    ),
+    (
+        &[
+            (1, CONFIG),
+            (1, b"bmp_daemon: true\nacct_route_capture: routes.cap\n"),
+        ],
+        NOTHING_BUILT,
+        NOT_IN_PROFILE,
+    ),
+    // With other plugins likewise.
+    (
+        &[(
+            1,
+            b"plugins: print[p], memory\nprint_output_file[p]: p.csv\nacct_memory_file: m.txt\n\
 print_output_file_append: true\nacct_flow_capture: flows.cap\nbgp_agent_map: agents.map\n",
-            )],
-            NOTHING_BUILT,
-            NOT_IN_PROFILE,
-        ),
-        // Plugins have outputs of their own.
-        (
-            &[(
-                1,
-                b"plugins: print[p], memory\nprint_output_file[p]: p.csv\nacct_memory_file: p.csv\n\
+        )],
+        NOTHING_BUILT,
+        NOT_IN_PROFILE,
+    ),
+    // Plugins have outputs of their own.
+    (
+        &[(
+            1,
+            b"plugins: print[p], memory\nprint_output_file[p]: p.csv\nacct_memory_file: p.csv\n\
 print_output_file_append: true\nacct_flow_capture: flows.cap\n",
-            )],
-            SHARED,
-            SAME_NAME,
-        ),
-        // What isn't built goes before the configuration's own name and before a capture that is missing.
-        (
-            &[
-                (1, NO_NAMES),
-                (
-                    1,
-                    b"print_output_file: nfacctd.conf\nbgp_agent_map: agents.map\n",
-                ),
-            ],
-            NOTHING_BUILT,
-            NOT_IN_PROFILE,
-        ),
-        (
-            &[(1, NO_NAMES), (1, b"print_output_file: nfacctd.conf\n")],
-            SHARED,
-            SAME_NAME,
-        ),
-        (
-            &[(1, NO_NAMES), (1, b"print_output_file: p.csv\n")],
-            LACKING,
-            MISSING_KEY,
-        ),
-    ];
-    let found = first_difference(rt.alloc(), &cases)?;
-    assert_eq!(rt; found, (8, "none"));
-    let audit: [Refused; 1] = [(
+        )],
+        SHARED,
+        SAME_NAME,
+    ),
+    // What isn't built goes before the configuration's own name and before a capture that is missing.
+    (
         &[
             (1, NO_NAMES),
             (
                 1,
-                b"print_output_file: p.csv\nacct_flow_capture: flows.cap\nacct_audit_file: nfacctd.conf\n",
+                b"print_output_file: nfacctd.conf\nbgp_agent_map: agents.map\n",
             ),
         ],
+        NOTHING_BUILT,
+        NOT_IN_PROFILE,
+    ),
+    (
+        &[(1, NO_NAMES), (1, b"print_output_file: nfacctd.conf\n")],
         SHARED,
         SAME_NAME,
-    )];
-    let found = first_difference(rt.alloc(), &audit)?;
+    ),
+    (
+        &[(1, NO_NAMES), (1, b"print_output_file: p.csv\n")],
+        LACKING,
+        MISSING_KEY,
+    ),
+];
+
+fn unbuilt() -> &'static [Refused] {
+    &UNBUILT
+}
+
+static OWN_AUDIT: [Refused; 1] = [(
+    &[
+        (1, NO_NAMES),
+        (
+            1,
+            b"print_output_file: p.csv\nacct_flow_capture: flows.cap\nacct_audit_file: nfacctd.conf\n",
+        ),
+    ],
+    SHARED,
+    SAME_NAME,
+)];
+
+fn own_audit() -> &'static [Refused] {
+    &OWN_AUDIT
+}
+
+#[test]
+fn what_is_not_built_yet_is_refused_at_no_line(rt: HostRuntime) -> Result<(), Fail> {
+    let found = first_difference(rt.alloc(), unbuilt())?;
+    assert_eq!(rt; found, (8, "none"));
+    let found = first_difference(rt.alloc(), own_audit())?;
     assert_eq!(rt; found, (1, "none"));
     Ok(())
 }

@@ -1,5 +1,5 @@
 ghost use Rattle.std.specs.Prelude.{◌≡◌, List, ℕ, map, string_bytes, IsTrue, IfOk, IfErr, IfSome, IfNone, None, ◌≢◌, OnErr};
-ghost use Rattle.acct_top.specs.Answers.{HasReason, HaveOneJob, Holds, LeavesOthers, NamesFile, RunReason};
+ghost use Rattle.acct_top.specs.Answers.{HasReason, HaveOneJob, HaveOneOutcome, Holds, LeavesOthers, NamesFile, RunReason};
 ghost use Rattle.acct_top.specs.Complete.{IsOwed};
 ghost use Rattle.acct_top.specs.Job.{IsReplay};
 ghost use Rattle.acct_top.specs.Reading.{IsJob, IsNoJob, ReadReason, TakesEach, read_before};
@@ -16,6 +16,7 @@ use acct_types::{Hashing, NoMemory, Text};
 use collect_core::Job;
 use config_keys::{ConfigCause, ConfigFault, Tool, UsageFault, Words, read_words};
 use outside_io::{Place, Sink};
+use plugin_work::outputs_are_one;
 use pretag_map::{AgentMap, SamplingMap, TagMap};
 use std::alloc::Global;
 
@@ -136,3 +137,10 @@ pub fn account_alone<P: Place, S: Sink>(
 pub fn one_job()
     ensures { HaveOneJob }
 {}
+
+/// Words and files have one outcome: two runs that are done leave the same in every file.
+pub fn one_outcome()
+    ensures { HaveOneOutcome }
+{
+    outputs_are_one();
+}

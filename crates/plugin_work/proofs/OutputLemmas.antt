@@ -33,7 +33,7 @@ same_purges one (slice ∷ slices) (p ∷ some) (q ∷ other) a b =
 
 pub one_output : HaveOnePurge → HaveOneOutput
 one_output one = record {
-  purges = λ config items some other a b. same_purges one (slices_in config items) some other a b;
+  purges = same_purges one;
   text = λ config items some other a b.
       a.is ∙ ap (texts_of config) (same_purges one (slices_in config items) a.purges b.purges a.are b.are) ∙ sym b.is;
 }

@@ -47,9 +47,9 @@ pub record IsOutputText (config : PluginConfig) (items : List Item) (text : List
   pub are : ArePurgesOf config items purges
   pub is : text ≡ texts_of config purges
 
--- items have one list of purges, and so one text
+-- slices have one list of purges, and so items one text
 pub record HaveOneOutput : Type 0 where
-  pub purges : (config : PluginConfig) (items : List Item) (some other : List Purge) → ArePurgesOf config items some → ArePurgesOf config items other → some ≡ other
+  pub purges : (slices : List Slice) (some other : List Purge) → OneForEach IsPurgeOf slices some → OneForEach IsPurgeOf slices other → some ≡ other
   pub text : (config : PluginConfig) (items : List Item) (some other : List ℕ) → IsOutputText config items some → IsOutputText config items other → some ≡ other
 
 -- what items count under which key

@@ -3,7 +3,7 @@ ghost use Rattle.plugin_work.specs.Output.{HaveOneOutput, OutputsConserve};
 use acct_types::keys_are_ordered;
 use plugin_cache::{one_purge, slices_conserve};
 
-/// A law: items have one list of purges, and so one output text.
+/// A law: slices have one list of purges, and so items one output text.
 pub fn outputs_are_one()
     ensures { HaveOneOutput }
 {
