@@ -168,8 +168,10 @@ module _ (some other : Job) (same : IsSameJob some other) where
       where
         Of : PluginConfig → Type 0
         Of plugin = name ≢ plugin.file
+
         first : plugin_says p ≡ plugin_says q
         first = cc
+
         by : (b : Bool) → bytes_eq name p.file ≡ b → (after name ≡ other_after name) ⊎ (All (λ p. name ≢ p.file) (p ∷ ps) × All (λ q. name ≢ q.file) (q ∷ qs))
         by true e =
             let at : name ≡ p.file = (bytes_eq-Decides name p.file).0 e in
@@ -193,8 +195,8 @@ module _ (some other : Job) (same : IsSameJob some other) where
             elim (same_or_none some.config.plugins other.config.plugins (ap (λ (c : ConfigSays). c.plugins) same.config) h.plugins k.plugins name) [
               | inl found ↦ found
               | inr none ↦
-                h.others name (record { plugins = none.0; audit = apart })
-                ∙ sym (k.others name (record { plugins = none.1; audit = subst (λ (c : ConfigSays). name ≢ c.acct_audit_file) same.config apart }))
+                  h.others name (record { plugins = none.0; audit = apart })
+                  ∙ sym (k.others name (record { plugins = none.1; audit = subst (λ (c : ConfigSays). name ≢ c.acct_audit_file) same.config apart }))
             ]
 
 -- ---- the words
@@ -204,10 +206,13 @@ one_outcome one tool words before after other_before other_after begins h k = λ
   where
     jobs : IsSameJob h.0 k.0
     jobs = one_job tool words before.names h.0 k.0 h.1 (subst (λ (n : Names). Accepts tool words n k.0) (sym begins) k.1)
+
     mine : IsDone h.0 h.2 after
     mine = h.4
+
     theirs : IsDone k.0 k.2 other_after
     theirs = k.4
+
     octets : mine.octets ≡ theirs.octets
     octets =
         sym (append-nil mine.octets)
@@ -215,16 +220,20 @@ one_outcome one tool words before after other_before other_after begins h k = λ
         (capture_was h.0 before h.2 after mine.octets [] h.3.names mine.taken)
         (ap before.names (same_capture h.0 k.0 jobs) ∙ ap (λ (n : Names). n (capture_of k.0)) begins ∙ capture_was k.0 other_before k.2 other_after theirs.octets [] k.3.names theirs.taken)
         ∙ append-nil theirs.octets
+
     flows : flows_of h.0 mine.octets ≡ flows_of k.0 theirs.octets
     flows = same_flows h.0 k.0 jobs mine.octets ∙ ap (flows_of k.0) octets
+
     mine_accounted : IsAccounted h.0 unrouted (flows_of k.0 theirs.octets) before.names after.names
     mine_accounted =
         subst (λ (c : Course). IsAccounted h.0 c (flows_of k.0 theirs.octets) before.names after.names) mine.is_course.without_routes
         (subst (λ (ds : List Datagram). IsAccounted h.0 mine.course ds before.names after.names) flows
         (subst (λ (n : Names). IsAccounted h.0 mine.course (flows_of h.0 mine.octets) n after.names) h.3.names mine.accounted))
+
     theirs_accounted : IsAccounted k.0 unrouted (flows_of k.0 theirs.octets) before.names other_after.names
     theirs_accounted =
         subst (λ (c : Course). IsAccounted k.0 c (flows_of k.0 theirs.octets) before.names other_after.names) theirs.is_course.without_routes
         (subst (λ (n : Names). IsAccounted k.0 theirs.course (flows_of k.0 theirs.octets) n other_after.names) (k.3.names ∙ sym begins) theirs.accounted)
+
     same : (name : List ℕ) → after.names name ≡ other_after.names name
     same = one_text h.0 k.0 jobs one (flows_of k.0 theirs.octets) before.names after.names other_after.names mine_accounted theirs_accounted
