@@ -164,24 +164,26 @@ module _ (some other : Job) (same : IsSameJob some other) where
     same_or_none [] [] is h k name = inr (All-nil (λ (p : PluginConfig). name ≢ p.file), All-nil (λ (p : PluginConfig). name ≢ p.file))
     same_or_none [] (q ∷ qs) is h k name = absurd (cc)
     same_or_none (p ∷ ps) [] is h k name = absurd (cc)
-    same_or_none (p ∷ ps) (q ∷ qs) is h k name = by (bytes_eq name p.file) refl
+    same_or_none (p ∷ ps) (q ∷ qs) is h k name =
+        by (bytes_eq name p.file) refl (same_or_none ps qs (cc) (All-tail (HoldsOutput some unrouted flows before after) p ps h) (All-tail (HoldsOutput other unrouted flows before other_after) q qs k) name)
       where
         Of : PluginConfig → Type 0
         Of plugin = name ≢ plugin.file
 
+        Found : List PluginConfig → List PluginConfig → Type 0
+        Found some_plugins other_plugins = (after name ≡ other_after name) ⊎ (All Of some_plugins × All Of other_plugins)
+
         first : plugin_says p ≡ plugin_says q
         first = cc
 
-        by : (b : Bool) → bytes_eq name p.file ≡ b → (after name ≡ other_after name) ⊎ (All (λ p. name ≢ p.file) (p ∷ ps) × All (λ q. name ≢ q.file) (q ∷ qs))
-        by true e =
+        by : (b : Bool) → bytes_eq name p.file ≡ b → Found ps qs → Found (p ∷ ps) (q ∷ qs)
+        by true e others =
             let at : name ≡ p.file = (bytes_eq-Decides name p.file).0 e in
             inl (ap after at ∙ same_output p q first (All-head (HoldsOutput some unrouted flows before after) p ps h) (All-head (HoldsOutput other unrouted flows before other_after) q qs k) ∙ ap other_after (sym at))
-        by false e =
+        by false e (inl found) = inl found
+        by false e (inr none) =
             let apart : name ≢ p.file = λ at. true_is_not_false (sym ((bytes_eq-Decides name p.file).1 at) ∙ e) in
-            elim (same_or_none ps qs (cc) (All-tail (HoldsOutput some unrouted flows before after) p ps h) (All-tail (HoldsOutput other unrouted flows before other_after) q qs k) name) [
-              | inl found ↦ inl found
-              | inr none ↦ inr (All-cons Of p ps apart none.0, All-cons Of q qs (subst (λ (s : PluginSays). name ≢ s.file) first apart) none.1)
-            ]
+            inr (All-cons Of p ps apart none.0, All-cons Of q qs (subst (λ (s : PluginSays). name ≢ s.file) first apart) none.1)
 
     one_text : IsAccounted some unrouted flows before after → IsAccounted other unrouted flows before other_after → (name : List ℕ) → after name ≡ other_after name
     one_text h k name = by (bytes_eq name some.config.acct_audit_file) refl
