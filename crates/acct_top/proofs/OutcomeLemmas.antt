@@ -1,5 +1,5 @@
 -- Two runs that are done leave the same.
-use Rattle.std.proofs.Common.{◌≡◌, ◌∙◌, ◌++◌, ◌≢◌, ◌⊎◌, ◌+◌, ◌-◌, [], ◌∷◌, ℕ, List, Bool, true, false, Option, Some, refl, sym, ap, subst, length, inl, inr}
+use Rattle.std.proofs.Common.{◌≡◌, ◌∙◌, ◌++◌, ◌≢◌, ◌⊎◌, ◌+◌, ◌-◌, [], ◌∷◌, ℕ, List, Bool, true, false, Some, refl, sym, ap, subst, length, inl, inr}
 use Rattle.std.specs.Prelude.{All, None, filter, flat_map, map, min, option_and_then, reverse, take}
 use Rattle.std.specs.Str.{bytes_eq}
 use Rattle.std.proofs.lemmas.List.{append-nil}
@@ -20,14 +20,12 @@ use Rattle.collect_core.specs.Due.{due, entries_from, entries_in, key_in, over_a
 use Rattle.collect_core.specs.Ends.{slices_in, timed}
 use Rattle.collect_core.specs.Job.{as_of}
 use Rattle.collect_core.specs.Most.{FULL}
-use Rattle.config_keys.specs.ConfigViews.{plugin_says, says}
+use Rattle.config_keys.specs.ConfigViews.{plugin_says}
 use Rattle.config_keys.specs.Reading.{ConfigSays, PluginSays}
 use Rattle.config_keys.specs.ValueViews.{asked_view}
 use Rattle.config_keys.specs.Values.{Asked}
 use Rattle.config_keys.specs.declared.plugin.PluginConfig.{PluginConfig}
-use Rattle.out_text.specs.declared.event.Event.{Event}
 use Rattle.out_text.specs.declared.event.Event.TheVariants.{Drop, End}
-use Rattle.out_text.specs.declared.event.Totals.{Totals}
 use Rattle.out_text.specs.Events.{events_text}
 use Rattle.out_text.specs.declared.field.Field.{Field}
 use Rattle.out_text.specs.declared.field.Field.TheVariants as field
@@ -36,16 +34,13 @@ use Rattle.out_text.specs.Objects.{json_line}
 use Rattle.out_text.specs.Purges.{purge_text, row_lines, table_text}
 use Rattle.out_text.specs.Rows.{count_entries, count_fields, header_entries, name_entry, row_entries, under_columns}
 use Rattle.outside_io.specs.Names.{Names, begun}
-use Rattle.outside_io.specs.States.{PlaceState}
 use Rattle.plugin_cache.specs.Slices.{IsPurgeOf, OneForEach, Slice, slices_of}
-use Rattle.plugin_work.specs.Output.{HaveOneOutput, limit_of, of_print, refresh_of, texts_of}
+use Rattle.plugin_work.specs.Output.{HaveOneOutput, of_print, texts_of}
 use Rattle.pretag_map.specs.TagRules.{label_at, tags_of}
-use Rattle.pretag_map.specs.declared.facts.Tags.{Tags}
 use Rattle.primitive_keys.specs.Facts.{facts_of}
 use Rattle.primitive_keys.specs.Keys.{cell_in, key_cells_of}
-use Rattle.acct_top.specs.declared.answer.Answer.TheVariants.{Done}
-use Rattle.acct_top.specs.Answers.{Accepts, HaveOneOutcome, Holds, IsDone, IsSameJob}
-use Rattle.acct_top.specs.Conservation.{HoldsOutput, IsAccounted, IsNoOutput, begin_of, flows_of, start_of}
+use Rattle.acct_top.specs.Answers.{Accepts, HaveOneOutcome, IsDone, IsSameJob}
+use Rattle.acct_top.specs.Conservation.{HoldsOutput, IsAccounted, begin_of, flows_of, start_of}
 use Rattle.acct_top.specs.Job.{capture_of}
 use Rattle.acct_top.proofs.ReadingLemmas.{same_octets}
 use Rattle.acct_top.proofs.TopLemmas.{capture_was, one_job, same_capture, same_decoded, same_flows, same_records_in, same_records_of}

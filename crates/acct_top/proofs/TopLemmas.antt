@@ -1,5 +1,5 @@
 -- From what holds of a job to what holds of the words, and the answers that are owed.
-use Rattle.std.proofs.Common.{◌≡◌, ◌∙◌, ◌≢◌, ◌++◌, ◌≤◌, [], ◌∷◌, ℕ, List, Bool, Option, Some, refl, sym, ap, subst, length, inl, inr}
+use Rattle.std.proofs.Common.{◌≡◌, ◌∙◌, ◌≢◌, ◌++◌, [], ◌∷◌, ℕ, List, Bool, Some, refl, sym, ap, subst, length, inl, inr}
 use Rattle.std.specs.Prelude.{◌-◌, IsTrue, nat_lt, if◌then◌else◌, unwrap_or}
 use Rattle.std.proofs.lemmas.List.{append-nil}
 use Rattle.acct_types.specs.declared.datagram.Datagram.{Datagram}
@@ -9,9 +9,7 @@ use Rattle.collect_core.specs.Due.{decoded_in, over_all, records_in, records_of,
 use Rattle.collect_core.specs.Flows.{fitting, up_to_limit}
 use Rattle.collect_core.specs.Job.{renormalises}
 use Rattle.collect_core.specs.Most.{FULL}
-use Rattle.config_keys.specs.ConfigViews.{says}
 use Rattle.config_keys.specs.Reading.{ConfigSays}
-use Rattle.config_keys.specs.declared.plugin.PluginConfig.{PluginConfig}
 use Rattle.config_keys.specs.declared.tool.Tool.{Tool}
 use Rattle.flow_decode.specs.Counting.{answer_of}
 use Rattle.flow_decode.specs.History.{decoded_behind}
@@ -20,13 +18,12 @@ use Rattle.outside_io.specs.Names.{Names}
 use Rattle.outside_io.specs.declared.ends.SideEnd.{SideEnd}
 use Rattle.outside_io.specs.declared.ends.SideEnd.TheVariants as side
 use Rattle.outside_io.specs.declared.ends.Which.TheVariants as which
-use Rattle.plugin_work.specs.Output.{texts_of}
 use Rattle.acct_top.specs.declared.answer.AnyCause.{AnyCause}
 use Rattle.acct_top.specs.declared.answer.Answer.{Answer}
 use Rattle.acct_top.specs.declared.answer.Answer.TheVariants.{Done, Usage, ConfigRefused, OpenFault, FlowFault, CaptureTorn, CaptureBad, WriteFault, SayFault, TooMany, NoMemory}
-use Rattle.acct_top.specs.Answers.{Accepts, Begins, HasReason, HaveOneJob, Holds, HoldsOfJob, IsConfigRefused, IsSameJob, IsStopped, IsUnopened, JobReason, NamesFile, OfJob, OfRun, RunReason, side_answer}
+use Rattle.acct_top.specs.Answers.{Accepts, Begins, HasReason, HaveOneJob, Holds, HoldsOfJob, IsConfigRefused, IsSameJob, IsStopped, JobReason, NamesFile, OfJob, OfRun, RunReason, side_answer}
 use Rattle.acct_top.specs.Complete.{HasCapture, IsOwed}
-use Rattle.acct_top.specs.Conservation.{HoldsOutput, HoldsOutputButFor, HoldsText, IsAccountedButFor, IsTaken, KeepsOthers, flow_end, flows_of, side_end, start_of}
+use Rattle.acct_top.specs.Conservation.{IsTaken, flow_end, flows_of, side_end}
 use Rattle.acct_top.specs.Job.{capture_of}
 use Rattle.acct_top.specs.Reading.{GivesNoJob, IsJob}
 use Rattle.acct_top.specs.Said.{IsSaidAs}

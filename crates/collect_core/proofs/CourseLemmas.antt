@@ -1,6 +1,6 @@
 -- A run without routes on one thread.
 use Rattle.std.proofs.Common.{◌≡◌, ◌∙◌, ◌+◌, ◌∷◌, ◌++◌, [], ℕ, List, refl, sym, ap, ap₂, arith}
-use Rattle.std.specs.Prelude.{Bool, true, false, filter, length, map, not, reverse, if◌then◌else◌}
+use Rattle.std.specs.Prelude.{Bool, true, false, filter, length, map, not, if◌then◌else◌}
 use Rattle.std.proofs.lemmas.List.{append-nil}
 use Rattle.acct_types.specs.Cells.{key_eq}
 use Rattle.acct_types.specs.Counts.{AddUp, nothing, plus}

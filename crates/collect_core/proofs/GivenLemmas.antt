@@ -1,5 +1,5 @@
 -- Plugins that are given items by their numbers.
-use Rattle.std.proofs.Common.{◌≡◌, ◌≢◌, ◌∙◌, ◌+◌, ◌<◌, ◌≤◌, ◌∷◌, ◌++◌, [], ℕ, zero, suc, Bool, true, false, nat_eq, List, append_assoc, append-nil, arith, ap, ap₂, get_or, get_or-set_other, length, length-append, map, refl, subst, sym}
+use Rattle.std.proofs.Common.{◌≡◌, ◌≢◌, ◌∙◌, ◌+◌, ◌<◌, ◌≤◌, ◌∷◌, ◌++◌, [], ℕ, suc, Bool, true, false, nat_eq, List, append_assoc, append-nil, arith, ap, ap₂, get_or, get_or-set_other, length, length-append, map, refl, subst, sym}
 use Rattle.std.specs.Prelude.{Some, ◌==◌, if◌then◌else◌, slice_get}
 use Rattle.std.proofs.Math.ListN.{set}
 use Rattle.std.proofs.lemmas.Bool.{eq-eqb, eqb-false, eqb-true, ne_eqb}
@@ -10,7 +10,7 @@ use Rattle.config_keys.specs.declared.plugin.PluginConfig.{PluginConfig}
 use Rattle.plugin_work.specs.Plugins.{HasTaken, PluginState}
 use Rattle.outside_io.specs.States.{SinkState}
 use Rattle.collect_core.specs.Due.{Entry, entry_of}
-use Rattle.collect_core.specs.Given.{AreGiven, IsGiven, Take}
+use Rattle.collect_core.specs.Given.{AreGiven, Take}
 use Rattle.collect_core.specs.Loads.{given_to}
 use Rattle.collect_core.proofs.LoadLemmas.{given_append, given_one}
 

@@ -4,7 +4,6 @@ use Rattle.std.specs.Prelude.{All, Some, ◌==◌, filter, if◌then◌else◌, 
 use Rattle.std.proofs.lemmas.Bool.{eq-eqb, eqb-false, eqb-true, ne_eqb}
 use Rattle.std.proofs.lemmas.List.{append-nil, length-map, length-take-le, map-append, take_more}
 use Rattle.std.proofs.lemmas.List.Elements.{All-append, All-cons, All-nil, filter-append}
-use Rattle.acct_types.specs.declared.datagram.Datagram.{Datagram}
 use Rattle.acct_types.specs.declared.flow.FlowRecord.{FlowRecord}
 use Rattle.acct_types.specs.declared.item.Item.{Item}
 use Rattle.config_keys.specs.declared.plugin.PluginConfig.{PluginConfig}

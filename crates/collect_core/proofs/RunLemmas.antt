@@ -9,7 +9,6 @@ use Rattle.std.proofs.lemmas.List.Elements.{All-cons, All-nil}
 use Rattle.acct_types.specs.declared.datagram.Datagram.{Datagram}
 use Rattle.acct_types.specs.declared.flow.FlowRecord.{FlowRecord}
 use Rattle.acct_types.specs.declared.item.Item.{Item}
-use Rattle.flow_decode.specs.History.{DecoderState, Knows}
 use Rattle.flow_decode.specs.declared.decoder.Decoded.{Decoded}
 use Rattle.flow_templates.specs.declared.refusal.Cause.{Cause}
 use Rattle.config_keys.specs.declared.plugin.PluginConfig.{PluginConfig}

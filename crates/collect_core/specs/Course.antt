@@ -1,6 +1,6 @@
 -- The course of a run beside its datagrams: the routing messages, by how many of them the records of each datagram are routed, and
 -- which entries the plugins' rings refused.
-use Rattle.std.specs.Prelude.{ℕ, Bool, true, false, ◌≡◌, List, [], Option, Some, None}
+use Rattle.std.specs.Prelude.{ℕ, Bool, false, List, [], Option, None}
 use Rattle.acct_types.specs.Updates.{Message}
 use Rattle.acct_types.specs.declared.addr.Addr.{Addr}
 use Rattle.acct_types.specs.declared.choice.AsFrom.{AsFrom}

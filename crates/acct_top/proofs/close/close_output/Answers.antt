@@ -1,4 +1,4 @@
-use Rattle.std.proofs.Common.{◌≡◌, Bool, Err, ap, false, subst, sym}
+use Rattle.std.proofs.Common.{Bool, Err, ap, subst, sym}
 use Rattle.std.proofs.lemmas.Result.{IfOk-weaker}
 use Rattle.outside_io.specs.Causes.{Rose}
 use Rattle.outside_io.specs.Names.{begun}

@@ -6,7 +6,7 @@ use Rattle.collect_core.specs.Due.{over_all}
 use Rattle.collect_core.specs.Given.{Take}
 use Rattle.collect_core.specs.Loads.{given_to}
 use Rattle.collect_core.specs.Most.{most_in}
-use Rattle.collect_core.proofs.RunLemmas.{passes_if_full, run_more, same_plugins, step_fits}
+use Rattle.collect_core.proofs.RunLemmas.{passes_if_full, run_more, same_plugins}
 use Rattle.collect_core.proofs.running.take_datagram.Goals as goal
 
 pub returns-clause-run : goal.returns-clause-run
