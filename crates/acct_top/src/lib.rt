@@ -17,15 +17,3 @@ pub use in_memory::account_in_memory;
 pub use say::say_answer;
 pub use top::{account_alone, one_job, one_outcome};
 
-#[cfg(test)]
-mod capture_tests;
-#[cfg(test)]
-mod map_tests;
-#[cfg(test)]
-mod protocol_tests;
-#[cfg(test)]
-mod several_tests;
-#[cfg(test)]
-mod test_runs;
-#[cfg(test)]
-mod tests;

@@ -22,8 +22,6 @@ mod reading;
 mod rib;
 mod route;
 mod route_event;
-#[cfg(test)]
-mod tests;
 mod update;
 
 pub use addr::Addr;

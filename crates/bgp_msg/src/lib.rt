@@ -27,9 +27,3 @@ pub use message::{AddPath, Agreed, BgpFault, BgpMessage, BgpRefusal, Hello};
 pub use read::read_message;
 pub use write::{write_keepalive, write_notification, write_open};
 
-#[cfg(test)]
-mod open_tests;
-#[cfg(test)]
-mod tests;
-#[cfg(test)]
-mod update_tests;

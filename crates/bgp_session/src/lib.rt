@@ -2,16 +2,12 @@
 //! what the peer's UPDATEs say. Nothing is announced to the peer.
 #![tactic(auto)]
 
-#[cfg(test)]
-mod bird;
 mod framing;
 mod hearing;
 pub mod laws;
 mod message;
 mod progress;
 mod session;
-#[cfg(test)]
-mod tests;
 mod turn;
 mod why;
 

@@ -15,6 +15,3 @@ pub use flows::CaptureEnd;
 pub use inputs::{CaptureFlows, CaptureRoutes};
 pub use reader::{CaptureReader, Step};
 pub use write::{write_flow, write_magic, write_route};
-
-#[cfg(test)]
-mod tests;

@@ -11,8 +11,6 @@ mod log;
 mod plugins;
 mod run;
 mod running;
-#[cfg(test)]
-mod tests;
 
 pub use collector::{Core, CoreStep};
 pub use job::{Job, collects};

@@ -13,8 +13,6 @@ mod plugin;
 mod read;
 mod seen;
 mod table;
-#[cfg(test)]
-mod tests;
 mod tool;
 mod value;
 mod words;

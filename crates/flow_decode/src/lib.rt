@@ -4,7 +4,5 @@
 mod counting;
 mod decoder;
 pub mod laws;
-#[cfg(test)]
-mod tests;
 
 pub use decoder::{Decoded, Decoder, FeedFault};

@@ -11,5 +11,3 @@ mod templates;
 
 pub use sets::read_sets;
 
-#[cfg(test)]
-mod tests;

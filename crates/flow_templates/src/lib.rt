@@ -13,8 +13,6 @@ mod refusal;
 mod staged;
 mod store;
 mod template;
-#[cfg(test)]
-mod tests;
 
 pub use change::{TemplateChange, changes_add_up};
 pub use decoded::{Notice, NoticeCause, RawDecoded, RawRecord};

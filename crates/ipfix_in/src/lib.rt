@@ -6,5 +6,3 @@ mod message;
 
 pub use message::decode_ipfix;
 
-#[cfg(test)]
-mod tests;

@@ -9,5 +9,3 @@ pub use flow_templates::{Cause, Notice, NoticeCause, RawDecoded, RawRecord, Unde
 pub use version5::decode_v5;
 pub use version9::decode_v9;
 
-#[cfg(test)]
-mod tests;

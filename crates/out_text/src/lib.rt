@@ -5,15 +5,11 @@ mod cell_text;
 mod csv_lines;
 mod event;
 mod event_reading;
-#[cfg(test)]
-mod event_tests;
 mod field;
 mod formatted_lines;
 mod json_lines;
 mod purge;
 mod row;
-#[cfg(test)]
-mod tests;
 
 pub use event::{Event, Totals, event_text, lines_have_one_list, one_event};
 pub use event_reading::{LineFault, read_event};

@@ -38,6 +38,3 @@ pub use spans::{
 };
 pub use traits::{Place, Sink, Source};
 pub use whole::{ReadOctets, read_all, read_name, write_all};
-
-#[cfg(test)]
-mod tests;

@@ -3,8 +3,6 @@
 
 mod aggregate;
 mod cache;
-#[cfg(test)]
-mod tests;
 
 pub use aggregate::{Aggregate, entries_add_up, one_purge, purges_conserve};
 pub use cache::{Cache, few_items_fit, slices_are_purged, slices_conserve};

@@ -3,8 +3,6 @@
 
 mod laws;
 mod plugin;
-#[cfg(test)]
-mod tests;
 mod writing;
 
 pub use laws::{outputs_are_one, outputs_conserve};

@@ -12,8 +12,6 @@ mod member;
 mod rules;
 mod sampling_map;
 mod tag_map;
-#[cfg(test)]
-mod tests;
 mod value;
 
 pub use agent_map::{AgentMap, read_agent_map};

@@ -5,8 +5,6 @@ mod key;
 mod record_facts;
 mod routing;
 mod sources;
-#[cfg(test)]
-mod tests;
 mod values;
 
 pub use key::key_of;

@@ -15,8 +15,6 @@ use std::io::{self, ErrorKind, Write};
 use std::random::RandomSource;
 use std::rt::{Env, Files};
 
-#[cfg(test)]
-mod tests;
 
 fn words<R: Env + AllocGlobal>(rt: &R) -> io::Result<Vec<String>> {
     let mut words = Vec::new(rt.alloc());

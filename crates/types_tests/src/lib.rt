@@ -1,0 +1,6 @@
+//! Tests of the shared types.
+
+#![tactic(auto)]
+
+#[cfg(test)]
+mod types;
