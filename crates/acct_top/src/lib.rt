@@ -16,4 +16,3 @@ pub use answer::{Answer, AnyCause, BadCause, status};
 pub use in_memory::account_in_memory;
 pub use say::say_answer;
 pub use top::{account_alone, one_job, one_outcome};
-

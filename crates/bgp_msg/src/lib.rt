@@ -26,4 +26,3 @@ pub use laws::{
 pub use message::{AddPath, Agreed, BgpFault, BgpMessage, BgpRefusal, Hello};
 pub use read::read_message;
 pub use write::{write_keepalive, write_notification, write_open};
-

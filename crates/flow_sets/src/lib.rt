@@ -10,4 +10,3 @@ mod sets;
 mod templates;
 
 pub use sets::read_sets;
-

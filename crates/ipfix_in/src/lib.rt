@@ -5,4 +5,3 @@ pub mod laws;
 mod message;
 
 pub use message::decode_ipfix;
-

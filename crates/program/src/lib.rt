@@ -15,7 +15,6 @@ use std::io::{self, ErrorKind, Write};
 use std::random::RandomSource;
 use std::rt::{Env, Files};
 
-
 fn words<R: Env + AllocGlobal>(rt: &R) -> io::Result<Vec<String>> {
     let mut words = Vec::new(rt.alloc());
     for word in env::args(rt)?.skip(1) {

@@ -11,4 +11,3 @@ mod xdr;
 pub use datagram::decode_sflow;
 pub use flow_templates::{Cause, Notice, NoticeCause, RawDecoded, RawRecord, Undecodable};
 pub use sampled_header::{HeaderFault, HeaderFields, read_sampled_header};
-
