@@ -1,3 +1,4 @@
+use crate::test_runs::{is_held, words_of};
 use acct_top::{Answer, AnyCause, BadCause, account_alone, account_in_memory, status};
 use acct_types::{Hashing, List, NoMemory, Octets, Text};
 use config_keys::{ConfigCause, Tool};
@@ -5,7 +6,7 @@ use outside_io::{MemoryPlace, MemorySink};
 use std::alloc::Global;
 use std::test::Fail;
 
-const CONFIG: &[u8] = b"plugins: print[p]\n\
+pub(crate) const CONFIG: &[u8] = b"plugins: print[p]\n\
 aggregate[p]: src_host, dst_host, src_port, dst_port, proto\n\
 print_output[p]: csv\n\
 print_output_file[p]: p.csv\n\
@@ -65,7 +66,7 @@ const LOW_PORT: &[u8] = b"\x0a\0\0\x01\x0a\0\0\x02\0\0\0\0\0\0\0\0\0\0\0\x01\xff
 const LOW_SOURCE: &[u8] = b"\x09\0\0\x01\x0a\0\0\x02\0\0\0\0\0\0\0\0\0\0\0\x02\0\0\0\x64\
 \0\0\0\0\0\0\0\0\x04\0\0\x50\0\0\x06\0\0\0\0\0\0\0\0\0";
 
-const ROWS: &[u8] = b"SRC_IP,DST_IP,SRC_PORT,DST_PORT,PROTOCOL,PACKETS,BYTES\n\
+pub(crate) const ROWS: &[u8] = b"SRC_IP,DST_IP,SRC_PORT,DST_PORT,PROTOCOL,PACKETS,BYTES\n\
 10.0.0.1,10.0.0.2,1024,80,6,10,840\n";
 
 const AUDIT: &[u8] = b"end 1 0 1 0 0 0\n";
@@ -151,14 +152,6 @@ fn joined(alloc: Global, parts: &[Part]) -> Result<Octets, NoMemory> {
     Ok(octets)
 }
 
-fn words_of(alloc: Global, words: &[&str]) -> Result<Vec<String>, Fail> {
-    let mut all = Vec::new(alloc);
-    for word in words {
-        all.push(String::from_str(alloc, word)?)?;
-    }
-    Ok(all)
-}
-
 fn put(
     alloc: Global,
     place: &mut MemoryPlace,
@@ -217,11 +210,7 @@ fn holds(
     wanted: Option<&[u8]>,
 ) -> Result<bool, NoMemory> {
     let name = Text::from_slice(alloc, name)?;
-    Ok(match (place.get(&name), wanted) {
-        (Some(octets), Some(wanted)) => octets.as_slice() == wanted,
-        (None, None) => true,
-        _ => false,
-    })
+    Ok(is_held(place.get(&name), wanted))
 }
 
 fn holds_parts(

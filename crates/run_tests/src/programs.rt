@@ -1,3 +1,5 @@
+use crate::faults::{CONFIG, ROWS};
+use crate::test_runs::{is_held, words_of};
 use acct_types::{Hashing, List, NoMemory, Octets, Text};
 use config_keys::Tool;
 use outside_io::{MemoryPlace, MemorySink};
@@ -5,24 +7,12 @@ use program::run_words;
 use std::alloc::Global;
 use std::test::Fail;
 
-const CONFIG: &[u8] = b"plugins: print[p]\n\
-aggregate[p]: src_host, dst_host, src_port, dst_port, proto\n\
-print_output[p]: csv\n\
-print_output_file[p]: p.csv\n\
-print_output_file_append: true\n\
-acct_flow_capture: flows.cap\n\
-acct_audit_file: audit.txt\n\
-acct_threads: false\n";
-
 // A datagram of 72 octets from 192.0.2.1, port 50000, at 1000 ms: 10.0.0.1 to 10.0.0.2, ports 1024 and 80, protocol 6, 10 packets,
 // 840 octets.
 const CAPTURE: &[u8] = b"PMACAP01\x04\0\0\0\0\0\0\x03\xe8\xc0\0\x02\x01\xc3\x50\0\0\0\x48\
 \0\x05\0\x01\0\0\0\0\0\0\0\0\0\0\0\0\0\0\0\0\0\0\0\0\
 \x0a\0\0\x01\x0a\0\0\x02\0\0\0\0\0\0\0\0\0\0\0\x0a\0\0\x03\x48\
 \0\0\0\0\0\0\0\0\x04\0\0\x50\0\0\x06\0\0\0\0\0\0\0\0\0";
-
-const ROWS: &[u8] = b"SRC_IP,DST_IP,SRC_PORT,DST_PORT,PROTOCOL,PACKETS,BYTES\n\
-10.0.0.1,10.0.0.2,1024,80,6,10,840\n";
 
 const NAMED: &[&str] = &["-f", "nfacctd.conf"];
 
@@ -44,14 +34,6 @@ fn put(alloc: Global, place: &mut MemoryPlace, name: &[u8], octets: &[u8]) -> Re
     )
 }
 
-fn words_of(alloc: Global, words: &[&str]) -> Result<Vec<String>, Fail> {
-    let mut all = Vec::new(alloc);
-    for word in words {
-        all.push(String::from_str(alloc, word)?)?;
-    }
-    Ok(all)
-}
-
 // The first thing in which a run differs from what is wanted.
 fn difference(alloc: Global, case: &Case) -> Result<&'static str, Fail> {
     let (words, config, wanted, line, output) = *case;
@@ -71,11 +53,7 @@ fn difference(alloc: Global, case: &Case) -> Result<&'static str, Fail> {
         &mut say,
     );
     let name = Text::from_slice(alloc, b"p.csv")?;
-    let wrote = match (place.get(&name), output) {
-        (Some(octets), Some(output)) => octets.as_slice() == output,
-        (None, None) => true,
-        _ => false,
-    };
+    let wrote = is_held(place.get(&name), output);
     Ok(if status != wanted {
         "status"
     } else if say.held().as_slice() != line {

@@ -190,14 +190,15 @@ fn place(alloc: Global, given: &Given) -> Result<MemoryPlace, NoMemory> {
     Ok(place)
 }
 
-fn words(alloc: Global) -> Result<Vec<String>, Fail> {
-    let mut words = Vec::new(alloc);
-    words.push(String::from_str(alloc, "-f")?)?;
-    words.push(String::from_str(alloc, "c.conf")?)?;
-    Ok(words)
+pub(crate) fn words_of(alloc: Global, words: &[&str]) -> Result<Vec<String>, Fail> {
+    let mut all = Vec::new(alloc);
+    for word in words {
+        all.push(String::from_str(alloc, word)?)?;
+    }
+    Ok(all)
 }
 
-fn is_held(held: Option<&Octets>, wanted: Option<&[u8]>) -> bool {
+pub(crate) fn is_held(held: Option<&Octets>, wanted: Option<&[u8]>) -> bool {
     match (held, wanted) {
         (Some(held), Some(wanted)) => held.as_slice() == wanted,
         (None, None) => true,
@@ -216,7 +217,7 @@ pub(crate) fn difference(
     wanted: &Wanted,
 ) -> Result<&'static [u8], Fail> {
     let mut place = place(alloc, given)?;
-    let words = words(alloc)?;
+    let words = words_of(alloc, &["-f", "c.conf"])?;
     let mut say = MemorySink::new(alloc, 64, List::new(alloc));
     let answer = account_alone(
         alloc,
