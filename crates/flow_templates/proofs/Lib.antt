@@ -4,4 +4,5 @@ pub mod FieldLemmas
 pub mod NotedLemmas
 pub mod RateLemmas
 pub mod RecordLemmas
+pub mod SpellingLemmas
 pub mod StoreLemmas

@@ -21,7 +21,7 @@ or_parts : (a b : Bool) → (a || b) ≡ false → (a ≡ false) × (b ≡ false
 or_parts true b h = cc h
 or_parts false b h = (refl, h)
 
-least_head : (options : Bool) → 4 ≤ head_length options
+pub least_head : (options : Bool) → 4 ≤ head_length options
 least_head true = omega arith
 least_head false = omega arith
 

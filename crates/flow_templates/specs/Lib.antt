@@ -5,4 +5,5 @@ pub mod Elements
 pub mod Keys
 pub mod Known
 pub mod Noted
+pub mod Spellings
 pub mod Templates

@@ -6,6 +6,7 @@ mod change;
 mod decoded;
 mod domain_templates;
 mod elements;
+pub mod laws;
 mod noted;
 mod rate;
 mod reading;
