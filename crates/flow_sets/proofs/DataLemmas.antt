@@ -34,7 +34,7 @@ pub record Leads (domain : Domain) (known : Known) (template : Template) (octets
 pub begins : (domain : Domain) (known : Known) (template : Template) (octets : List ℕ) (old : Said) → Leads domain known template octets old octets old
 begins domain known template octets old = record { left = length octets; enough = omega arith; leads = refl }
 
-stops : (left : ℕ) (domain : Domain) (known : Known) (template : Template) (rest : List ℕ) → length rest < least_length domain.version template.fields
+pub stops : (left : ℕ) (domain : Domain) (known : Known) (template : Template) (rest : List ℕ) → length rest < least_length domain.version template.fields
     → records_from left domain known template rest ≡ Ok nothing_said
 stops zero domain known template rest h = refl
 stops (suc left) domain known template rest h = rw (lt-ltb (length rest) (least_length domain.version template.fields) h) refl
@@ -57,6 +57,14 @@ pub is_cut : (domain : Domain) (known : Known) (template : Template) (octets : L
 is_cut domain known template octets old rest now so some least h =
     behind_err old (data_said domain known template octets) VarCut (sym so.leads ∙ ap (behind now) (cut so.left domain known template rest so.enough some least h))
 
+-- one more record
+pub one_more : (left : ℕ) (domain : Domain) (known : Known) (template : Template) (rest : List ℕ) → least_length domain.version template.fields ≤ length rest
+    → record_length domain.version template rest ≤ length rest
+    → records_from (suc left) domain known template rest
+    ≡ behind (record_said domain known template (number_in domain.version template rest)) (records_from left domain known template (drop (record_length domain.version template rest) rest))
+one_more left domain known template rest least whole =
+    rw (le-ltb (length rest) (least_length domain.version template.fields) least, le-ltb (length rest) (record_length domain.version template rest) whole) refl
+
 pub goes_on : (domain : Domain) (known : Known) (template : Template) (octets : List ℕ) (old : Said) (rest : List ℕ) (now : Said) → Leads domain known template octets old rest now
     → 1 ≤ least_length domain.version template.fields → least_length domain.version template.fields ≤ length rest → record_length domain.version template rest ≤ length rest
     → 1 ≤ record_length domain.version template rest
@@ -71,8 +79,7 @@ goes_on domain known template octets old rest now so some least whole long = by 
     by (suc left) enough leads =
         let one = record_said domain known template (number_in domain.version template rest) in
         let next = records_from left domain known template (drop (record_length domain.version template rest) rest) in
-        let here : records_from (suc left) domain known template rest ≡ behind one next =
-        rw (le-ltb (length rest) (least_length domain.version template.fields) least, le-ltb (length rest) (record_length domain.version template rest) whole) refl in
+        let here : records_from (suc left) domain known template rest ≡ behind one next = one_more left domain known template rest least whole in
         record {
           left = left;
           enough = rw (length-drop (record_length domain.version template rest) rest) (omega (arith, enough, long));

@@ -1,7 +1,7 @@
 -- Sets behind whole sets.
 use Rattle.std.proofs.Common.{◌≡◌, ◌∙◌, ◌+◌, ◌-◌, ◌≤◌, ◌<◌, ◌++◌, ◌∷◌, [], ℕ, zero, suc, Bool, true, false, cond, List, length, take, drop, refl, sym, ap, subst, append_assoc, length-append, length-drop, arith}
-use Rattle.std.specs.Prelude.{◌==◌, ◌||◌, IsOk, Result, Ok, Err, nat_lt, if◌then◌else◌}
-use Rattle.std.proofs.lemmas.Bool.{le-ltb, ltb-false, eqb-true, ne_eqb}
+use Rattle.std.specs.Prelude.{◌==◌, ◌||◌, IsOk, Result, Ok, Err, nat_lt}
+use Rattle.std.proofs.lemmas.Bool.{ltb-false, ne_eqb}
 use Rattle.std.proofs.lemmas.List.{drop-append-le, length-take-le, take-append-drop, take-append-le}
 use Rattle.byteorder.specs.Numbers.{big_from-append}
 use Rattle.acct_types.specs.Numbers.{number_at}

@@ -7,3 +7,4 @@ pub mod SayingLemmas
 pub mod DataLemmas
 pub mod TemplateLemmas
 pub mod SetLemmas
+pub mod SpellingLemmas

@@ -42,7 +42,7 @@ least_record version (field ∷ fields) octets place =
 abbrev pub AllFixed : ℕ → List FieldSpec → Type 0
 AllFixed version fields = list_all (λ (field : FieldSpec). not (is_variable version field)) fields ≡ true
 
-fixed_end : (version : ℕ) (field : FieldSpec) (octets : List ℕ) (place : ℕ) → not (is_variable version field) ≡ true → end_of version field octets place ≡ place + least_width version field
+pub fixed_end : (version : ℕ) (field : FieldSpec) (octets : List ℕ) (place : ℕ) → not (is_variable version field) ≡ true → end_of version field octets place ≡ place + least_width version field
 fixed_end version field octets place h = by (is_variable version field) (slice_index octets place == 255) h
   where
     by : (v l : Bool) → not v ≡ true → place + (if v then (if l then 3 else 1) else 0)
@@ -50,10 +50,10 @@ fixed_end version field octets place h = by (is_variable version field) (slice_i
     by true l h = cc h
     by false l h = omega arith
 
-abbrev plain_span : ℕ → ℕ → Span
+abbrev pub plain_span : ℕ → ℕ → Span
 plain_span place width = record { place = place; width = width }
 
-fixed_span : (version : ℕ) (field : FieldSpec) (octets : List ℕ) (place : ℕ) → not (is_variable version field) ≡ true → span_of version field octets place ≡ plain_span place field.width
+pub fixed_span : (version : ℕ) (field : FieldSpec) (octets : List ℕ) (place : ℕ) → not (is_variable version field) ≡ true → span_of version field octets place ≡ plain_span place field.width
 fixed_span version field octets place h = by (is_variable version field) (slice_index octets place == 255) h
   where
     by : (v l : Bool) → not v ≡ true

@@ -4,3 +4,4 @@ pub mod Rates
 pub mod Records
 pub mod Saying
 pub mod Sets
+pub mod Spellings
