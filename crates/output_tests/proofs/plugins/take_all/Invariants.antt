@@ -1,5 +1,5 @@
 use Rattle.std.proofs.Common.{◌≡◌}
-use Rattle.plugin_work.proofs.tests.take_all.Given as goal
+use Rattle.output_tests.proofs.plugins.take_all.Given as goal
 
 abbrev pub invariant-loop-given : goal.invariant-loop-given
 invariant-loop-given l = l.plugin.taken ≡ l.given-index

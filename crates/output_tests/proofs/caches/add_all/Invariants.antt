@@ -1,5 +1,5 @@
 use Rattle.plugin_cache.specs.Slices.{SumUpTo}
-use Rattle.plugin_cache.proofs.tests.add_all.Given as goal
+use Rattle.output_tests.proofs.caches.add_all.Given as goal
 
 -- as few items as were added
 abbrev pub invariant-loop-given : goal.invariant-loop-given

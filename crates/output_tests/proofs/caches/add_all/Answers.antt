@@ -1,6 +1,6 @@
 use Rattle.std.proofs.Common.{◌≡◌, ◌+◌, arith, suc, subst, sym, ℕ}
 use Rattle.plugin_cache.specs.Slices.{CacheState, SumUpTo, timed}
-use Rattle.plugin_cache.proofs.tests.add_all.Goals as goal
+use Rattle.output_tests.proofs.caches.add_all.Goals as goal
 
 pub loop-given-preserved : goal.loop-given-preserved
 loop-given-preserved c =
