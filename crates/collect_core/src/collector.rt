@@ -11,7 +11,7 @@ ghost use Rattle.collect_core.specs.Seen.{HasSeen, IsFed, IsStep};
 
 use crate::Job;
 use crate::loads::loads_of;
-use acct_types::{Datagram, FlowRecord, Item, List, NoMemory};
+use acct_types::{Datagram, FlowRecord, Hashing, Item, List, NoMemory};
 use flow_decode::{Decoder, FeedFault};
 use flow_templates::Notice;
 use out_text::{Event, Totals};
@@ -49,15 +49,15 @@ fn notices_of(alloc: Global, number: u64, notices: &[Notice]) -> Result<List<Eve
 }
 
 impl Core {
-    /// A core that has seen no datagram.
-    pub fn new(alloc: Global, job: &Job) -> Core
+    /// A core that has seen no datagram. Its decoder looks up by `hashing`, which no answer depends on.
+    pub fn new(alloc: Global, hashing: Hashing, job: &Job) -> Core
         requires { collects job.now.config.tool ≡ true }
         ensures seen { HasSeen job.now [] result }
         ensures totals { result.totals ≡ record { datagrams = 0; refused = 0; records = 0; dropped = 0; messages = 0; closed = 0 } }
     {
         Core {
             alloc,
-            decoder: Decoder::new(alloc, job.config.tool, job.renormalises()),
+            decoder: Decoder::new(alloc, hashing, job.config.tool, job.renormalises()),
             totals: Totals {
                 datagrams: 0,
                 refused: 0,

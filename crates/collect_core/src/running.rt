@@ -48,7 +48,7 @@ pub fn begin<W: Sink>(
 {
     let plugins = start_plugins(alloc, hashing, job.config.plugins.as_slice(), outs)?;
     Ok(Running {
-        collector: Core::new(alloc, job),
+        collector: Core::new(alloc, hashing, job),
         plugins,
         log: Log::new(alloc),
         left: limits.octets,

@@ -816,7 +816,7 @@ fn is_step(
     if !collects(job.config.tool) || datagram.octets.len() > 65_535 {
         return Err("there is no such step".into());
     }
-    let step = Core::new(alloc, job).datagram(job, &datagram, most)?;
+    let step = Core::new(alloc, Hashing::fixed(), job).datagram(job, &datagram, most)?;
     let (events, loads, full) = wanted;
     if step.events.len() != events || step.loads.len() != loads.len() || step.full != full {
         return Ok(false);

@@ -1,4 +1,4 @@
-use acct_types::{Addr, Datagram, FlowRecord, NoMemory, Octets};
+use acct_types::{Addr, Datagram, FlowRecord, Hashing, NoMemory, Octets};
 use config_keys::Tool;
 use flow_decode::{Decoded, Decoder, FeedFault};
 use flow_templates::{Cause, Notice, NoticeCause, Undecodable};
@@ -265,7 +265,7 @@ fn first_wrong(
 
 // What nfacctd decodes, as it stands.
 fn plain(alloc: Global, steps: &[Step]) -> Result<Option<usize>, Fail> {
-    let mut decoder = Decoder::new(alloc, Tool::Nfacctd, false);
+    let mut decoder = Decoder::new(alloc, Hashing::fixed(), Tool::Nfacctd, false);
     first_wrong(alloc, &mut decoder, &SamplingMap::empty(alloc), steps)
 }
 
@@ -275,7 +275,7 @@ fn renormalised(alloc: Global, map: &[u8], steps: &[Step]) -> Result<Option<usiz
         return Err("too long".into());
     }
     let map = read_sampling_map(alloc, map).map_err(|_| "no map")?;
-    let mut decoder = Decoder::new(alloc, Tool::Nfacctd, true);
+    let mut decoder = Decoder::new(alloc, Hashing::fixed(), Tool::Nfacctd, true);
     first_wrong(alloc, &mut decoder, &map, steps)
 }
 
@@ -597,7 +597,7 @@ fn sfacctd_reads_sflow_alone(rt: HostRuntime) -> Result<(), Fail> {
     let alloc = rt.alloc();
     let map = SamplingMap::empty(alloc);
     for (renormalise, wanted) in [(false, (1500, 1)), (true, (600_000, 400))] {
-        let mut decoder = Decoder::new(alloc, Tool::Sfacctd, renormalise);
+        let mut decoder = Decoder::new(alloc, Hashing::fixed(), Tool::Sfacctd, renormalise);
         let wrong = first_wrong(
             alloc,
             &mut decoder,

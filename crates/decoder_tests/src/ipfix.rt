@@ -1,4 +1,4 @@
-use acct_types::{Addr, Counts, FlowRecord, NoMemory, Octets};
+use acct_types::{Addr, Counts, FlowRecord, Hashing, NoMemory, Octets};
 use flow_templates::{
     Cause, Domain, Notice, NoticeCause, RawDecoded, RawRecord, Staged, Stores, Undecodable,
 };
@@ -58,7 +58,7 @@ fn said_alone(
     if octets.len() > 65535 {
         return Err("too long".into());
     }
-    let mut staged = Staged::new(alloc);
+    let mut staged = Staged::new(alloc, Hashing::fixed());
     let decoded = decode_ipfix(alloc, stores, &mut staged, &EXPORTER, octets);
     Ok((decoded, staged))
 }
@@ -85,7 +85,7 @@ fn domain(id: u32) -> Domain {
 
 #[test]
 fn a_record_field_by_field(rt: HostRuntime) -> Result<(), Fail> {
-    let stores = Stores::new(rt.alloc());
+    let stores = Stores::new(rt.alloc(), Hashing::fixed());
     let (decoded, _) = said(
         rt.alloc(),
         &stores,
@@ -133,7 +133,7 @@ fn a_record_field_by_field(rt: HostRuntime) -> Result<(), Fail> {
 
 #[test]
 fn what_a_message_teaches_is_staged(rt: HostRuntime) -> Result<(), Fail> {
-    let mut stores = Stores::new(rt.alloc());
+    let mut stores = Stores::new(rt.alloc(), Hashing::fixed());
     let (decoded, staged) = said(
         rt.alloc(),
         &stores,
@@ -173,7 +173,7 @@ fn a_withdrawal_is_staged(rt: HostRuntime) -> Result<(), Fail> {
         (&[0, 3, 0, 8, 1, 0, 0, 0], true, false),
     ];
     for (withdrawal, template, options) in cases {
-        let mut stores = Stores::new(rt.alloc());
+        let mut stores = Stores::new(rt.alloc(), Hashing::fixed());
         let (_, staged) = said(rt.alloc(), &stores, &[HEADER, TEMPLATE, OPTIONS])?;
         staged.commit(&mut stores)?;
         let (decoded, staged) = said(rt.alloc(), &stores, &[HEADER, withdrawal])?;
@@ -187,7 +187,7 @@ fn a_withdrawal_is_staged(rt: HostRuntime) -> Result<(), Fail> {
 
 #[test]
 fn data_of_another_domain_have_no_template(rt: HostRuntime) -> Result<(), Fail> {
-    let mut stores = Stores::new(rt.alloc());
+    let mut stores = Stores::new(rt.alloc(), Hashing::fixed());
     let (_, staged) = said(rt.alloc(), &stores, &[HEADER, TEMPLATE])?;
     staged.commit(&mut stores)?;
     let (decoded, _) = said(rt.alloc(), &stores, &[&HEADER[..11], &[5], DATA])?;
@@ -219,7 +219,7 @@ fn a_header_is_judged(rt: HostRuntime) -> Result<(), Fail> {
     ];
     for (front, header, cause) in cases {
         let octets = joined(rt.alloc(), &[front, header])?;
-        let stores = Stores::new(rt.alloc());
+        let stores = Stores::new(rt.alloc(), Hashing::fixed());
         let (decoded, _) = said_alone(rt.alloc(), &stores, octets.as_slice())?;
         assert_eq!(rt; decoded.err(), cause.map(Undecodable::Refused));
     }
@@ -241,7 +241,7 @@ fn octets_past_the_length_are_ignored(rt: HostRuntime) -> Result<(), Fail> {
             rt.alloc(),
             &[front, HEADER, &[1, 0, 0, 8, 1, 2, 3, 4], &[1, 0, 0]],
         )?;
-        let stores = Stores::new(rt.alloc());
+        let stores = Stores::new(rt.alloc(), Hashing::fixed());
         let (decoded, _) = said_alone(rt.alloc(), &stores, octets.as_slice())?;
         match decoded {
             Ok(decoded) => {
@@ -267,7 +267,7 @@ fn fields_of_variable_length_are_walked(rt: HostRuntime) -> Result<(), Fail> {
         (&[1, 2, 0, 6, 255, 0], Some(Cause::VarCut), &[]),
     ];
     for (data, cause, bytes) in cases {
-        let stores = Stores::new(rt.alloc());
+        let stores = Stores::new(rt.alloc(), Hashing::fixed());
         let (decoded, _) = said(rt.alloc(), &stores, &[HEADER, VARIABLE, data])?;
         match decoded {
             Ok(decoded) => {

@@ -12,7 +12,7 @@ ghost use Rattle.flow_decode.specs.History.{Knows, decoded_behind};
 
 use crate::counting::counted_flows;
 use acct_types::numbers::u16_at;
-use acct_types::{Datagram, FlowRecord, List};
+use acct_types::{Datagram, FlowRecord, Hashing, List};
 use config_keys::Tool;
 use flow_templates::{Cause, Notice, RawDecoded, Staged, Stores, Undecodable};
 use ipfix_in::decode_ipfix;
@@ -37,6 +37,7 @@ pub type FeedFault = Undecodable;
 #[derive(Drop)]
 pub struct Decoder {
     alloc: Global,
+    hashing: Hashing,
     tool: Tool,
     renormalise: bool,
     stores: Stores,
@@ -99,9 +100,10 @@ fn decode(
 }
 
 impl Decoder {
-    /// A decoder of a collector that knows nothing yet, which takes no memory. Where `renormalise` is true, the bytes and packets of a record
+    /// A decoder of a collector that knows nothing yet, which takes no memory. What it learns is looked up by `hashing`, which no
+    /// answer depends on. Where `renormalise` is true, the bytes and packets of a record
     /// are multiplied by its sampling rate.
-    pub fn new(alloc: Global, tool: Tool, renormalise: bool) -> Decoder
+    pub fn new(alloc: Global, hashing: Hashing, tool: Tool, renormalise: bool) -> Decoder
         requires { tool ≢ Tool.Pmbgpd }
         ensures tool { result.tool ≡ tool }
         ensures renormalise { result.renormalise ≡ renormalise }
@@ -110,9 +112,10 @@ impl Decoder {
     {
         Decoder {
             alloc,
+            hashing,
             tool,
             renormalise,
-            stores: Stores::new(alloc),
+            stores: Stores::new(alloc, hashing),
         }
     }
 
@@ -139,7 +142,7 @@ impl Decoder {
         ensures few { IfOk result (λ decoded. length decoded.rows ≤ length datagram.now.octets) }
         ensures counts { IfOk result (λ decoded. All (λ flow. IsBelow (2 ^ 96) flow.counts) decoded.rows) }
     {
-        let mut staged = Staged::new(self.alloc);
+        let mut staged = Staged::new(self.alloc, self.hashing);
         let raw = decode(self.alloc, self.tool, &self.stores, &mut staged, datagram)?;
         let rows = counted_flows(self.alloc, self.renormalise, map, raw.rows.as_slice())?;
         staged.commit(&mut self.stores)?;

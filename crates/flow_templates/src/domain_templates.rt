@@ -5,7 +5,7 @@ ghost use Rattle.flow_templates.specs.Changes.{without_kind};
 ghost use Rattle.flow_templates.specs.Domains.{Renumbers, numbered};
 
 use crate::Template;
-use acct_types::NoMemory;
+use acct_types::{Hashing, NoMemory};
 use indexmap::IndexMap;
 use std::alloc::Global;
 use std::marker::Model;
@@ -14,8 +14,8 @@ use std::marker::Model;
 /// others, so that all of a kind are withdrawn without a look at the other kind.
 #[derive(Drop)]
 pub(crate) struct DomainTemplates {
-    others: IndexMap<u16, Template>,
-    options: IndexMap<u16, Template>,
+    others: IndexMap<u16, Template, Hashing>,
+    options: IndexMap<u16, Template, Hashing>,
 }
 
 impl Model for DomainTemplates {
@@ -32,8 +32,8 @@ impl Model for DomainTemplates {
 
 // Puts a template among those of its kind, for which there is room.
 fn put(
-    own: &mut IndexMap<u16, Template>,
-    others: &mut IndexMap<u16, Template>,
+    own: &mut IndexMap<u16, Template, Hashing>,
+    others: &mut IndexMap<u16, Template, Hashing>,
     id: u16,
     template: Template,
 )
@@ -47,14 +47,24 @@ fn put(
     let _replaced = own.insert(id, template).unwrap();
 }
 
+// The template of an id among those of a kind. Where there are none, nothing is hashed.
+fn find(templates: &IndexMap<u16, Template, Hashing>, id: u16) -> Option<&Template>
+    ensures { option_copied result ≡ numbered templates.now.entries id }
+{
+    if templates.is_empty() {
+        return None;
+    }
+    templates.get(&id)
+}
+
 impl DomainTemplates {
     /// No template, which takes no memory.
-    pub(crate) fn new(alloc: Global) -> DomainTemplates
+    pub(crate) fn new(alloc: Global, hashing: Hashing) -> DomainTemplates
         ensures { result.templates ≡ [] }
     {
         DomainTemplates {
-            others: IndexMap::new(alloc),
-            options: IndexMap::new(alloc),
+            others: IndexMap::with_hasher(alloc, hashing),
+            options: IndexMap::with_hasher(alloc, hashing),
         }
     }
 
@@ -105,9 +115,9 @@ impl DomainTemplates {
     pub(crate) fn find(&self, id: u16) -> Option<&Template>
         ensures { option_copied result ≡ numbered self.now.templates id }
     {
-        match self.others.get(&id) {
+        match find(&self.others, id) {
             Some(template) => Some(template),
-            None => self.options.get(&id),
+            None => find(&self.options, id),
         }
     }
 }

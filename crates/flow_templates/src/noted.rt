@@ -5,7 +5,7 @@ ghost use Rattle.flow_templates.specs.Known.{rate_after};
 ghost use Rattle.flow_templates.specs.Noted.{is_later, put_by, put_or, subject_of};
 
 use crate::{Domain, LearnedRate, RateKey, Template, TemplateChange, TemplateKey};
-use acct_types::{List, NoMemory};
+use acct_types::{Hashing, List, NoMemory};
 use indexmap::IndexMap;
 use std::alloc::Global;
 use std::marker::Model;
@@ -69,7 +69,7 @@ fn is_later(withdrawn: Option<usize>, place: Option<usize>) -> bool
 #[derive(Drop)]
 pub(crate) struct NotedChanges {
     changes: List<TemplateChange>,
-    last: IndexMap<Subject, usize>,
+    last: IndexMap<Subject, usize, Hashing>,
 }
 
 impl Model for NotedChanges {
@@ -86,12 +86,12 @@ impl Model for NotedChanges {
 
 impl NotedChanges {
     /// No change, which takes no memory.
-    pub(crate) fn new(alloc: Global) -> NotedChanges
+    pub(crate) fn new(alloc: Global, hashing: Hashing) -> NotedChanges
         ensures { result ≡ [] }
     {
         NotedChanges {
             changes: List::new(alloc),
-            last: IndexMap::new(alloc),
+            last: IndexMap::with_hasher(alloc, hashing),
         }
     }
 
@@ -144,7 +144,7 @@ impl NotedChanges {
 #[derive(Drop)]
 pub(crate) struct NotedRates {
     rates: List<LearnedRate>,
-    last: IndexMap<RateKey, u32>,
+    last: IndexMap<RateKey, u32, Hashing>,
 }
 
 impl Model for NotedRates {
@@ -161,12 +161,12 @@ impl Model for NotedRates {
 
 impl NotedRates {
     /// No rate, which takes no memory.
-    pub(crate) fn new(alloc: Global) -> NotedRates
+    pub(crate) fn new(alloc: Global, hashing: Hashing) -> NotedRates
         ensures { result ≡ [] }
     {
         NotedRates {
             rates: List::new(alloc),
-            last: IndexMap::new(alloc),
+            last: IndexMap::with_hasher(alloc, hashing),
         }
     }
 

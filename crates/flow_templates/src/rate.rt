@@ -4,7 +4,7 @@ ghost use Rattle.flow_templates.specs.Keys.{rate_key_of};
 ghost use Rattle.flow_templates.specs.Known.{LearnsAll, RatesAddUp, learned_of, rate_found};
 
 use crate::Domain;
-use acct_types::NoMemory;
+use acct_types::{Hashing, NoMemory};
 use indexmap::IndexMap;
 use std::alloc::Global;
 use std::marker::Model;
@@ -38,7 +38,7 @@ pub struct LearnedRate {
 /// The sampling rates that were learned last, which contracts see as their entries: what counts is what is found under a key.
 #[derive(Drop)]
 pub struct OptionStore {
-    rates: IndexMap<RateKey, u32>,
+    rates: IndexMap<RateKey, u32, Hashing>,
 }
 
 impl Model for OptionStore {
@@ -51,7 +51,7 @@ impl Model for OptionStore {
 }
 
 // Learns rates, in their order, for which there is room.
-fn learn_all(rates: &mut IndexMap<RateKey, u32>, learned: &[LearnedRate])
+fn learn_all(rates: &mut IndexMap<RateKey, u32, Hashing>, learned: &[LearnedRate])
     requires { length learned.now ≤ spare rates.old }
     ensures { LearnsAll rates.old.entries rates.new.entries learned.now }
 {
@@ -62,11 +62,11 @@ fn learn_all(rates: &mut IndexMap<RateKey, u32>, learned: &[LearnedRate])
 
 impl OptionStore {
     /// No rate, which takes no memory.
-    pub fn new(alloc: Global) -> OptionStore
+    pub fn new(alloc: Global, hashing: Hashing) -> OptionStore
         ensures { result ≡ [] }
     {
         OptionStore {
-            rates: IndexMap::new(alloc),
+            rates: IndexMap::with_hasher(alloc, hashing),
         }
     }
 
@@ -89,6 +89,10 @@ impl OptionStore {
     pub fn rate(&self, domain: &Domain, sampler: Option<u64>) -> Option<u32>
         ensures { result ≡ rate_found self.now (rate_key_of domain.now sampler) }
     {
+        // Most exporters teach no rate: then nothing is hashed.
+        if self.rates.is_empty() {
+            return None;
+        }
         let key = RateKey::new(domain, sampler);
         self.rates.get(&key).copied()
     }

@@ -9,7 +9,7 @@ use crate::noted::{NotedChanges, NotedRates};
 use crate::{
     Domain, LearnedRate, OptionStore, RateKey, Template, TemplateChange, TemplateKey, TemplateStore,
 };
-use acct_types::NoMemory;
+use acct_types::{Hashing, NoMemory};
 use std::alloc::Global;
 use std::marker::Model;
 
@@ -22,14 +22,14 @@ pub struct Stores {
 
 impl Stores {
     /// Nothing, which takes no memory.
-    pub fn new(alloc: Global) -> Stores
+    pub fn new(alloc: Global, hashing: Hashing) -> Stores
         ensures templates { result.templates ≡ [] }
         ensures options { result.options ≡ [] }
         ensures known { known_in result ≡ nothing_known }
     {
         Stores {
-            templates: TemplateStore::new(alloc),
-            options: OptionStore::new(alloc),
+            templates: TemplateStore::new(alloc, hashing),
+            options: OptionStore::new(alloc, hashing),
         }
     }
 }
@@ -54,12 +54,12 @@ impl Model for Staged {
 
 impl Staged {
     /// No change, which takes no memory.
-    pub fn new(alloc: Global) -> Staged
+    pub fn new(alloc: Global, hashing: Hashing) -> Staged
         ensures { result ≡ nothing_staged }
     {
         Staged {
-            changes: NotedChanges::new(alloc),
-            rates: NotedRates::new(alloc),
+            changes: NotedChanges::new(alloc, hashing),
+            rates: NotedRates::new(alloc, hashing),
         }
     }
 

@@ -9,7 +9,7 @@ ghost use Rattle.flow_templates.specs.Templates.{IsDefined, is_accepted};
 
 use crate::domain_templates::DomainTemplates;
 use crate::{Domain, LearnedRate, OptionStore, Template, TemplateChange, TemplateKey};
-use acct_types::NoMemory;
+use acct_types::{Hashing, NoMemory};
 use indexmap::IndexMap;
 use std::alloc::Global;
 use std::marker::Model;
@@ -19,7 +19,7 @@ use std::marker::Model;
 /// look at another's templates.
 #[derive(Drop)]
 pub struct TemplateStore {
-    domains: IndexMap<Domain, DomainTemplates>,
+    domains: IndexMap<Domain, DomainTemplates, Hashing>,
 }
 
 impl Model for TemplateStore {
@@ -37,7 +37,7 @@ impl Model for TemplateStore {
 
 // Makes room for as many more templates of a domain. The templates stay.
 fn make_room(
-    domains: &mut IndexMap<Domain, DomainTemplates>,
+    domains: &mut IndexMap<Domain, DomainTemplates, Hashing>,
     domain: &Domain,
     count: usize,
 ) -> Result<(), NoMemory>
@@ -51,7 +51,7 @@ fn make_room(
     if let Some(templates) = domains.get_mut(domain) {
         return templates.reserve(count);
     }
-    let mut templates = DomainTemplates::new(*domains.allocator());
+    let mut templates = DomainTemplates::new(*domains.allocator(), *domains.hasher());
     templates.reserve(count)?;
     let _none = domains.insert(*domain, templates)?;
     Ok(())
@@ -59,7 +59,7 @@ fn make_room(
 
 // Makes room for all templates that the changes put. The templates stay.
 fn make_room_for_all(
-    domains: &mut IndexMap<Domain, DomainTemplates>,
+    domains: &mut IndexMap<Domain, DomainTemplates, Hashing>,
     changes: &[TemplateChange],
 ) -> Result<(), NoMemory>
     ensures entries { entries_of domains.new.entries ≡ entries_of domains.old.entries }
@@ -75,7 +75,11 @@ fn make_room_for_all(
     Ok(())
 }
 
-fn put(domains: &mut IndexMap<Domain, DomainTemplates>, key: TemplateKey, template: Template)
+fn put(
+    domains: &mut IndexMap<Domain, DomainTemplates, Hashing>,
+    key: TemplateKey,
+    template: Template,
+)
     requires { HasRoom domains.old.entries key.domain 1 }
     ensures changed { Changes (entries_of domains.old.entries) (entries_of domains.new.entries) (change.Put key template) }
     ensures room { (domain : _) (most : _) → HasRoom domains.old.entries domain (most + 1) → HasRoom domains.new.entries domain most }
@@ -85,7 +89,7 @@ fn put(domains: &mut IndexMap<Domain, DomainTemplates>, key: TemplateKey, templa
     templates.put(key.id, template);
 }
 
-fn withdraw(domains: &mut IndexMap<Domain, DomainTemplates>, key: TemplateKey)
+fn withdraw(domains: &mut IndexMap<Domain, DomainTemplates, Hashing>, key: TemplateKey)
     ensures changed { Changes (entries_of domains.old.entries) (entries_of domains.new.entries) (change.Withdraw key) }
     ensures room { (domain : _) (most : _) → HasRoom domains.old.entries domain (most + 1) → HasRoom domains.new.entries domain most }
     ensures unique { IsUnique ⟦<Domain as PartialEq>⟧.eq domains.new }
@@ -96,7 +100,11 @@ fn withdraw(domains: &mut IndexMap<Domain, DomainTemplates>, key: TemplateKey)
     }
 }
 
-fn withdraw_all(domains: &mut IndexMap<Domain, DomainTemplates>, domain: Domain, options: bool)
+fn withdraw_all(
+    domains: &mut IndexMap<Domain, DomainTemplates, Hashing>,
+    domain: Domain,
+    options: bool,
+)
     ensures changed { Changes (entries_of domains.old.entries) (entries_of domains.new.entries) (change.WithdrawAll domain options) }
     ensures room { (other : _) (most : _) → HasRoom domains.old.entries other (most + 1) → HasRoom domains.new.entries other most }
     ensures unique { IsUnique ⟦<Domain as PartialEq>⟧.eq domains.new }
@@ -108,7 +116,7 @@ fn withdraw_all(domains: &mut IndexMap<Domain, DomainTemplates>, domain: Domain,
 }
 
 // Makes a change for which there is room.
-fn apply(domains: &mut IndexMap<Domain, DomainTemplates>, change: TemplateChange)
+fn apply(domains: &mut IndexMap<Domain, DomainTemplates, Hashing>, change: TemplateChange)
     requires { HasRoomFor domains.old.entries 1 change }
     ensures changed { Changes (entries_of domains.old.entries) (entries_of domains.new.entries) change }
     ensures room { (domain : _) (most : _) → HasRoom domains.old.entries domain (most + 1) → HasRoom domains.new.entries domain most }
@@ -122,7 +130,7 @@ fn apply(domains: &mut IndexMap<Domain, DomainTemplates>, change: TemplateChange
 }
 
 // Makes changes, in their order, for which there is room.
-fn apply_all(domains: &mut IndexMap<Domain, DomainTemplates>, changes: Vec<TemplateChange>)
+fn apply_all(domains: &mut IndexMap<Domain, DomainTemplates, Hashing>, changes: Vec<TemplateChange>)
     requires { HaveRoom domains.old.entries (length changes.items) changes.items }
     ensures changed { ChangesAll (entries_of domains.old.entries) (entries_of domains.new.entries) changes.items }
     ensures unique { IsUnique ⟦<Domain as PartialEq>⟧.eq domains.new }
@@ -137,11 +145,11 @@ fn apply_all(domains: &mut IndexMap<Domain, DomainTemplates>, changes: Vec<Templ
 
 impl TemplateStore {
     /// No template, which takes no memory.
-    pub fn new(alloc: Global) -> TemplateStore
+    pub fn new(alloc: Global, hashing: Hashing) -> TemplateStore
         ensures { result ≡ [] }
     {
         TemplateStore {
-            domains: IndexMap::new(alloc),
+            domains: IndexMap::with_hasher(alloc, hashing),
         }
     }
 
@@ -176,6 +184,9 @@ impl TemplateStore {
         ensures defined { IfSome result (λ template. IsDefined domain.now.version template.now) }
         ensures accepted { IfSome result (λ template. is_accepted domain.now.version template.now ≡ true) }
     {
+        if self.domains.is_empty() {
+            return None;
+        }
         let Some(templates) = self.domains.get(domain) else {
             return None;
         };

@@ -9,12 +9,12 @@ pub returns-in-Some : goal.returns-in-Some
 returns-in-Some c =
     let others = c.self.inside.others.entries in
     let options = c.self.inside.options.entries in
-    ap (λ (first : Option Template). option_or first (numbered options c.args.id)) c.in-Some.ensures.value
+    ap (λ (first : Option Template). option_or first (numbered options c.args.id)) c.in-Some.ensures
     ∙ sym (in_either _ others options) ∙ ap (λ (kept : Numbered). numbered kept.templates c.args.id) c.self.view_is
 
 pub returns-in-None : goal.returns-in-None
 returns-in-None c =
     let others = c.self.inside.others.entries in
     let options = c.self.inside.options.entries in
-    ap₂ option_or c.in-None.ensures.value c.get-in-None.ensures.value
+    ap₂ option_or c.in-None.ensures c.find-in-None.ensures
     ∙ sym (in_either _ others options) ∙ ap (λ (kept : Numbered). numbered kept.templates c.args.id) c.self.view_is
