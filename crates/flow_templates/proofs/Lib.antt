@@ -2,6 +2,7 @@ pub mod ChangeLemmas
 pub mod DomainLemmas
 pub mod FieldLemmas
 pub mod NotedLemmas
+pub mod OneEachLemmas
 pub mod RateLemmas
 pub mod RecordLemmas
 pub mod SpellingLemmas

@@ -1,8 +1,8 @@
 -- The templates that are kept, as a map from keys to templates, and what changes it.
 use Rattle.std.specs.Prelude.{◌≡◌, ◌==◌, ◌&&◌, ◌++◌, Bool, false, List, [], ◌∷◌, Option, Some, None, if◌then◌else◌, IfSome}
 use Rattle.std.specs.Bool.{beq}
-use Rattle.std.specs.List.{AllByRecursion}
-use Rattle.std.specs.Map.{lookup}
+use Rattle.std.specs.List.{AllByRecursion, IsDistinct}
+use Rattle.std.specs.Map.{keys_of, lookup}
 use Rattle.acct_types.specs.declared.addr.Addr.{Addr}
 use Rattle.acct_types.specs.declared.addr.Addr.TheVariants.{V4, V6}
 use Rattle.flow_templates.specs.declared.template.Domain.{Domain}
@@ -33,6 +33,10 @@ same_key a b = same_domain a.domain b.domain && a.id == b.id
 -- the template that is kept under a key
 abbrev pub found : Entries → TemplateKey → Option Template
 found entries key = lookup (same_key key) entries
+
+-- each key has one template
+abbrev pub HasOneEach : Entries → Type 0
+HasOneEach entries = IsDistinct same_key (keys_of entries)
 
 -- what was found, but for a template of this kind
 abbrev pub without_kind : Bool → Option Template → Option Template

@@ -1,6 +1,6 @@
 -- How templates are kept: domain by domain, and in a domain by their ids.
 use Rattle.std.specs.Prelude.{ℕ, ⊤, ◌≡◌, ◌==◌, ◌≤◌, ◌++◌, All, Bool, true, false, List, [], ◌∷◌, Option, None, if◌then◌else◌, IfSome, MatchOption}
-use Rattle.std.specs.List.{IsDistinct}
+use Rattle.std.specs.List.{AllByRecursion, IsDistinct}
 use Rattle.std.specs.Map.{lookup, keys_of}
 use Rattle.flow_templates.specs.declared.template.Domain.{Domain}
 use Rattle.flow_templates.specs.declared.template.Template.{Template}
@@ -31,6 +31,10 @@ pub record AreParted (others options : List (ℕ × Template)) : Type 0 where
   pub options_kind : AreOfKind true options
   pub one : (id : ℕ) → IfSome (numbered others id) (λ template. numbered options id ≡ None)
 
+-- each id has one template
+abbrev pub HasOneAnId : List (ℕ × Template) → Type 0
+HasOneAnId templates = IsDistinct (λ a b. a == b) (keys_of templates)
+
 abbrev pub Domains : Type 0
 Domains = List (Domain × Numbered)
 
@@ -43,6 +47,10 @@ keyed domain (e ∷ templates) = (key_of domain e.0, e.1) ∷ keyed domain templ
 abbrev pub entries_of : Domains → Entries
 entries_of [] = []
 entries_of (e ∷ domains) = keyed e.0 e.1.templates ++ entries_of domains
+
+-- in each domain each id has one template
+abbrev pub HaveOneAnId : Domains → Type 0
+HaveOneAnId domains = AllByRecursion (λ e. HasOneAnId e.1.templates) domains
 
 -- there is room for as many more templates of a domain
 abbrev pub HasRoom : Domains → Domain → ℕ → Type 0
@@ -57,7 +65,8 @@ HasRoomFor domains count (WithdrawAll domain options) = ⊤
 abbrev pub HaveRoom : Domains → ℕ → List TemplateChange → Type 0
 HaveRoom domains count changes = All (HasRoomFor domains count) changes
 
--- no domain comes twice, and each template is one that an accepted record defines
+-- no domain comes twice, in none an id, and each template is one that an accepted record defines
 pub record AreKept (domains : Domains) : Type 0 where
   pub apart : IsDistinct same_domain (keys_of domains)
+  pub one : HaveOneAnId domains
   pub defined : AreDefined (entries_of domains)

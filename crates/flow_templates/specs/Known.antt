@@ -1,6 +1,7 @@
 -- What exporters told: the template in force under each key, and the rate that was learned last under each.
 use Rattle.std.specs.Prelude.{ℕ, ◌≡◌, ◌==◌, ◌&&◌, Bool, true, false, List, [], ◌∷◌, ◌++◌, Option, Some, None, if◌then◌else◌}
-use Rattle.std.specs.Map.{lookup}
+use Rattle.std.specs.List.{IsDistinct}
+use Rattle.std.specs.Map.{keys_of, lookup}
 use Rattle.flow_templates.specs.declared.rate.LearnedRate.{LearnedRate}
 use Rattle.flow_templates.specs.declared.rate.RateKey.{RateKey}
 use Rattle.flow_templates.specs.declared.staged.Stores.{Stores}
@@ -22,6 +23,10 @@ same_rate_key a b = same_domain a.domain b.domain && same_sampler a.sampler b.sa
 -- the rate that is kept under a key
 abbrev pub rate_found : List (RateKey × ℕ) → RateKey → Option ℕ
 rate_found entries key = lookup (same_rate_key key) entries
+
+-- each key has one rate
+abbrev pub HasOneRateEach : List (RateKey × ℕ) → Type 0
+HasOneRateEach entries = IsDistinct same_rate_key (keys_of entries)
 
 abbrev pub learned_of : Domain → Option ℕ → ℕ → LearnedRate
 learned_of domain sampler rate = record { key = rate_key_of domain sampler; rate = rate }

@@ -2,7 +2,7 @@ ghost use Rattle.std.specs.Prelude.{◌≡◌, ◌<◌, ◌≤◌, ◌+◌, [], 
 ghost use Rattle.std.specs.Option.{option_copied};
 ghost use Rattle.indexmap.specs.IndexMap.{spare};
 ghost use Rattle.flow_templates.specs.Changes.{without_kind};
-ghost use Rattle.flow_templates.specs.Domains.{Renumbers, numbered};
+ghost use Rattle.flow_templates.specs.Domains.{HasOneAnId, Renumbers, numbered};
 
 use crate::Template;
 use acct_types::{Hashing, NoMemory};
@@ -110,6 +110,15 @@ impl DomainTemplates {
         } else {
             self.others.truncate(0);
         }
+    }
+
+    /// Each id has one template.
+    pub(crate) fn has_one_each(&self)
+        ensures { HasOneAnId self.now.templates }
+    {
+        // The lengths are what says that no id comes twice among those of a kind.
+        let _others = self.others.len();
+        let _options = self.options.len();
     }
 
     pub(crate) fn find(&self, id: u16) -> Option<&Template>

@@ -1,7 +1,7 @@
 ghost use Rattle.std.specs.Prelude.{◌≡◌, ◌∷◌, ◌≤◌, [], length, OnOk, OnErr};
 ghost use Rattle.indexmap.specs.IndexMap.{spare};
 ghost use Rattle.flow_templates.specs.Keys.{rate_key_of};
-ghost use Rattle.flow_templates.specs.Known.{LearnsAll, RatesAddUp, learned_of, rate_found};
+ghost use Rattle.flow_templates.specs.Known.{HasOneRateEach, LearnsAll, RatesAddUp, learned_of, rate_found};
 
 use crate::Domain;
 use acct_types::{Hashing, NoMemory};
@@ -95,6 +95,14 @@ impl OptionStore {
         }
         let key = RateKey::new(domain, sampler);
         self.rates.get(&key).copied()
+    }
+
+    /// A law: each domain and sampler has one rate.
+    pub fn has_one_each(&self)
+        ensures { HasOneRateEach self.now }
+    {
+        // The length is what says that no key comes twice.
+        let _count = self.rates.len();
     }
 
     /// Learns rates, one behind another: all of them, or none after NoMemory.

@@ -1,8 +1,8 @@
 ghost use Rattle.std.specs.Prelude.{◌≡◌, ◌==◌, length, ◌++◌, [], ◌∷◌, true, OnOk, OnErr, IfSome, IsTrue, ◌↔◌};
 ghost use Rattle.std.specs.Option.{option_copied};
 ghost use Rattle.flow_templates.specs.declared.change.TemplateChange.TheVariants as change;
-ghost use Rattle.flow_templates.specs.Changes.{and_change, and_rate, key_of, nothing_staged};
-ghost use Rattle.flow_templates.specs.Known.{known_after, known_in, learned_of, nothing_known, rate_key_of};
+ghost use Rattle.flow_templates.specs.Changes.{HasOneEach, and_change, and_rate, key_of, nothing_staged};
+ghost use Rattle.flow_templates.specs.Known.{HasOneRateEach, known_after, known_in, learned_of, nothing_known, rate_key_of};
 ghost use Rattle.flow_templates.specs.Templates.{IsDefined, is_accepted};
 
 use crate::noted::{NotedChanges, NotedRates};
@@ -31,6 +31,15 @@ impl Stores {
             templates: TemplateStore::new(alloc, hashing),
             options: OptionStore::new(alloc, hashing),
         }
+    }
+
+    /// A law: each domain and id has one template, and each domain and sampler one rate.
+    pub fn has_one_each(&self)
+        ensures templates { HasOneEach self.now.templates }
+        ensures rates { HasOneRateEach self.now.options }
+    {
+        self.templates.has_one_each();
+        self.options.has_one_each();
     }
 }
 

@@ -2,8 +2,8 @@ ghost use Rattle.std.specs.Prelude.{◌≡◌, ◌+◌, [], true, OnOk, OnErr, I
 ghost use Rattle.std.specs.Option.{option_copied};
 ghost use Rattle.indexmap.specs.IndexMap.{IsUnique};
 ghost use Rattle.flow_templates.specs.declared.change.TemplateChange.TheVariants as change;
-ghost use Rattle.flow_templates.specs.Changes.{Changes, ChangesAll, PutDefined, found, key_of};
-ghost use Rattle.flow_templates.specs.Domains.{HasRoom, HasRoomFor, HaveRoom, entries_of};
+ghost use Rattle.flow_templates.specs.Changes.{Changes, ChangesAll, HasOneEach, PutDefined, found, key_of};
+ghost use Rattle.flow_templates.specs.Domains.{HasRoom, HasRoomFor, HaveOneAnId, HaveRoom, entries_of};
 ghost use Rattle.flow_templates.specs.Known.{LearnsAll};
 ghost use Rattle.flow_templates.specs.Templates.{IsDefined, is_accepted};
 
@@ -45,10 +45,12 @@ fn make_room(
     ensures ok { OnOk result (HasRoom domains.new.entries domain.now count) }
     ensures room { (other : _) (most : _) → HasRoom domains.old.entries other most → HasRoom domains.new.entries other most }
     ensures unique { IsUnique ⟦<Domain as PartialEq>⟧.eq domains.new }
+    ensures one { HaveOneAnId domains.old.entries → HaveOneAnId domains.new.entries }
 {
     // The length is what says that no domain comes twice.
     let _count = domains.len();
     if let Some(templates) = domains.get_mut(domain) {
+        templates.has_one_each();
         return templates.reserve(count);
     }
     let mut templates = DomainTemplates::new(*domains.allocator(), *domains.hasher());
@@ -65,6 +67,7 @@ fn make_room_for_all(
     ensures entries { entries_of domains.new.entries ≡ entries_of domains.old.entries }
     ensures ok { OnOk result (HaveRoom domains.new.entries (length changes.now) changes.now) }
     ensures unique { IsUnique ⟦<Domain as PartialEq>⟧.eq domains.new }
+    ensures one { HaveOneAnId domains.old.entries → HaveOneAnId domains.new.entries }
 {
     let _count = domains.len();
     for change in changes {
@@ -84,19 +87,23 @@ fn put(
     ensures changed { Changes (entries_of domains.old.entries) (entries_of domains.new.entries) (change.Put key template) }
     ensures room { (domain : _) (most : _) → HasRoom domains.old.entries domain (most + 1) → HasRoom domains.new.entries domain most }
     ensures unique { IsUnique ⟦<Domain as PartialEq>⟧.eq domains.new }
+    ensures one { HaveOneAnId domains.old.entries → HaveOneAnId domains.new.entries }
 {
     let templates = domains.get_mut(&key.domain).unwrap();
     templates.put(key.id, template);
+    templates.has_one_each();
 }
 
 fn withdraw(domains: &mut IndexMap<Domain, DomainTemplates, Hashing>, key: TemplateKey)
     ensures changed { Changes (entries_of domains.old.entries) (entries_of domains.new.entries) (change.Withdraw key) }
     ensures room { (domain : _) (most : _) → HasRoom domains.old.entries domain (most + 1) → HasRoom domains.new.entries domain most }
     ensures unique { IsUnique ⟦<Domain as PartialEq>⟧.eq domains.new }
+    ensures one { HaveOneAnId domains.old.entries → HaveOneAnId domains.new.entries }
 {
     let _count = domains.len();
     if let Some(templates) = domains.get_mut(&key.domain) {
         templates.withdraw(key.id);
+        templates.has_one_each();
     }
 }
 
@@ -108,10 +115,12 @@ fn withdraw_all(
     ensures changed { Changes (entries_of domains.old.entries) (entries_of domains.new.entries) (change.WithdrawAll domain options) }
     ensures room { (other : _) (most : _) → HasRoom domains.old.entries other (most + 1) → HasRoom domains.new.entries other most }
     ensures unique { IsUnique ⟦<Domain as PartialEq>⟧.eq domains.new }
+    ensures one { HaveOneAnId domains.old.entries → HaveOneAnId domains.new.entries }
 {
     let _count = domains.len();
     if let Some(templates) = domains.get_mut(&domain) {
         templates.withdraw_all(options);
+        templates.has_one_each();
     }
 }
 
@@ -121,6 +130,7 @@ fn apply(domains: &mut IndexMap<Domain, DomainTemplates, Hashing>, change: Templ
     ensures changed { Changes (entries_of domains.old.entries) (entries_of domains.new.entries) change }
     ensures room { (domain : _) (most : _) → HasRoom domains.old.entries domain (most + 1) → HasRoom domains.new.entries domain most }
     ensures unique { IsUnique ⟦<Domain as PartialEq>⟧.eq domains.new }
+    ensures one { HaveOneAnId domains.old.entries → HaveOneAnId domains.new.entries }
 {
     match change {
         TemplateChange::Put(key, template) => put(domains, key, template),
@@ -134,6 +144,7 @@ fn apply_all(domains: &mut IndexMap<Domain, DomainTemplates, Hashing>, changes: 
     requires { HaveRoom domains.old.entries (length changes.items) changes.items }
     ensures changed { ChangesAll (entries_of domains.old.entries) (entries_of domains.new.entries) changes.items }
     ensures unique { IsUnique ⟦<Domain as PartialEq>⟧.eq domains.new }
+    ensures one { HaveOneAnId domains.old.entries → HaveOneAnId domains.new.entries }
 {
     let _count = domains.len();
     let mut rest = changes;
@@ -191,6 +202,13 @@ impl TemplateStore {
             return None;
         };
         templates.find(id)
+    }
+
+    /// A law: each domain and id has one template.
+    pub fn has_one_each(&self)
+        ensures { HasOneEach self.now }
+    {
+        let _ = &self.domains;
     }
 
     /// Makes changes, one behind another, and has a store learn rates: all of it, or nothing after NoMemory.

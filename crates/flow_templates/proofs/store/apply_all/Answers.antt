@@ -34,5 +34,6 @@ loop-change-preserved c =
       room = All-weaker (HasRoomFor old (length c.loop-change.rest.items)) (HasRoomFor new (length left))
           (more_room_for old new (length c.loop-change.rest.items) (length left) (λ domain. rw count (c.apply.ensures.room domain (length left)))) (reverse left)
           (All-tail (HasRoomFor old (length c.loop-change.rest.items)) c.in-Some.change (reverse left) (All-same (HasRoomFor old (length c.loop-change.rest.items)) _ _ (sym next) c.loop-change.invariant.room));
+      one = λ h. c.apply.ensures.one (c.loop-change.invariant.one h);
       unique = c.apply.ensures.unique;
     }

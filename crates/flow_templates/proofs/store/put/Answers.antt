@@ -3,8 +3,9 @@ use Rattle.std.specs.Prelude.{if◌then◌else◌, MatchOption}
 use Rattle.std.specs.Map.{lookup}
 use Rattle.std.specs.Option.{option_copied_mut}
 use Rattle.flow_templates.specs.Changes.{found, same_domain}
-use Rattle.flow_templates.specs.Domains.{Numbered, entries_of}
+use Rattle.flow_templates.specs.Domains.{HaveOneAnId, Numbered, entries_of}
 use Rattle.flow_templates.proofs.DomainLemmas.{apart_by, held_by, in_both, keeps_room, one_changes, writes_by}
+use Rattle.flow_templates.proofs.OneEachLemmas.{one_an_id_written}
 use Rattle.flow_templates.proofs.store.put.Goals as goal
 
 pub put-requires : goal.put-requires
@@ -35,3 +36,7 @@ returns-clause-room c other most =
     keeps_room old new domain c.unwrap-templates.result.now c.put.new.self there
     (writes_by old new domain c.put.new.self (written.3 (sym (ap is_some (sym (ap option_copied_mut c.unwrap-templates.ensures) ∙ c.get_mut.ensures.value)))).0)
     (most + 1) most (λ h. omega (arith, h, c.put.ensures.room)) (omega arith) other
+
+pub returns-clause-one : goal.returns-clause-one
+returns-clause-one c h =
+    subst HaveOneAnId (sym (c.get_mut.follows.holds c.put.new.self).0) (one_an_id_written _ c.args.domains.now.entries c.put.new.self c.has_one_each.ensures h)

@@ -1,9 +1,10 @@
-use Rattle.std.proofs.Common.{◌≡◌, ◌∙◌, ◌==◌, ◌+◌, Bool, true, false, Option, None, arith, sym, ap, is_some, refl}
+use Rattle.std.proofs.Common.{◌≡◌, ◌∙◌, ◌==◌, ◌+◌, Bool, true, false, Option, None, arith, sym, ap, is_some, refl, subst}
 use Rattle.std.specs.Prelude.{if◌then◌else◌}
 use Rattle.flow_templates.specs.declared.template.Template.{Template}
 use Rattle.flow_templates.specs.Changes.{found, same_domain}
-use Rattle.flow_templates.specs.Domains.{entries_of}
+use Rattle.flow_templates.specs.Domains.{HaveOneAnId, entries_of}
 use Rattle.flow_templates.proofs.DomainLemmas.{apart_by, held_by, in_both, keeps_room, nothing_held, one_changes, writes_by}
+use Rattle.flow_templates.proofs.OneEachLemmas.{one_an_id_written}
 use Rattle.flow_templates.proofs.store.withdraw.Goals as goal
 
 pub returns-in-Some-clause-changed : goal.returns-in-Some-clause-changed
@@ -38,3 +39,7 @@ returns-in_default-clause-changed c key =
     none_either : (c : Bool) → ◌≡◌ {A = Option Template} (if c then None else None) None
     none_either true = refl
     none_either false = refl
+
+pub returns-in-Some-clause-one : goal.returns-in-Some-clause-one
+returns-in-Some-clause-one c h =
+    subst HaveOneAnId (sym (c.get_mut.follows.holds c.withdraw.new.self).0) (one_an_id_written _ c.args.domains.now.entries c.withdraw.new.self c.has_one_each.ensures h)

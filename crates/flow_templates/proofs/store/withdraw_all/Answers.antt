@@ -1,7 +1,8 @@
-use Rattle.std.proofs.Common.{◌∙◌, ◌+◌, arith, sym, ap, is_some, None, refl}
+use Rattle.std.proofs.Common.{◌∙◌, ◌+◌, arith, sym, ap, is_some, None, refl, subst}
 use Rattle.flow_templates.specs.Changes.{found, without_kind}
-use Rattle.flow_templates.specs.Domains.{entries_of}
+use Rattle.flow_templates.specs.Domains.{HaveOneAnId, entries_of}
 use Rattle.flow_templates.proofs.DomainLemmas.{apart_by, held_by, keeps_room, nothing_held, one_changes, writes_by}
+use Rattle.flow_templates.proofs.OneEachLemmas.{one_an_id_written}
 use Rattle.flow_templates.proofs.store.withdraw_all.Goals as goal
 
 pub returns-in-Some-clause-changed : goal.returns-in-Some-clause-changed
@@ -30,3 +31,7 @@ returns-in_default-clause-changed c key =
     let domain = c.args.domain in
     ap (λ m. found (entries_of m.entries) key) c.get_mut.follows.holds-at-none
     ∙ nothing_held old (apart_by old c.len-count.ensures.unique) domain (held_by old domain None c.in_default.ensures.value) (without_kind c.args.options) refl key
+
+pub returns-in-Some-clause-one : goal.returns-in-Some-clause-one
+returns-in-Some-clause-one c h =
+    subst HaveOneAnId (sym (c.get_mut.follows.holds c.withdraw_all.new.self).0) (one_an_id_written _ c.args.domains.now.entries c.withdraw_all.new.self c.has_one_each.ensures h)
