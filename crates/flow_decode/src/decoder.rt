@@ -1,9 +1,9 @@
 ghost use Rattle.std.specs.Prelude.{◌≡◌, ◌≢◌, ◌≤◌, ◌^◌, ◌∷◌, [], All, Err, IfOk, IfErr, List as Sequence, OnErr, OnOk, length};
 ghost use Rattle.acct_types.specs.Counts.{IsBelow};
 ghost use Rattle.acct_types.specs.declared.datagram.Datagram.{Datagram};
-ghost use Rattle.flow_templates.specs.Changes.{nothing_staged};
+ghost use Rattle.flow_templates.specs.Changes.{HasOneEach, nothing_staged};
 ghost use Rattle.flow_templates.specs.Decoding.{Gives};
-ghost use Rattle.flow_templates.specs.Known.{known_in, nothing_known};
+ghost use Rattle.flow_templates.specs.Known.{HasOneRateEach, known_in, nothing_known};
 ghost use Rattle.flow_templates.specs.declared.refusal.Undecodable.TheVariants as undecodable;
 ghost use Rattle.flow_decode.specs.Answers.{Answers, Learns};
 ghost use Rattle.flow_decode.specs.Counting.{answer_of};
@@ -117,6 +117,14 @@ impl Decoder {
             renormalise,
             stores: Stores::new(alloc, hashing),
         }
+    }
+
+    /// A law: of each domain and id one template is kept, and of each domain and sampler one rate.
+    pub fn has_one_each(&self)
+        ensures templates { HasOneEach self.now.stores.templates }
+        ensures rates { HasOneRateEach self.now.stores.options }
+    {
+        self.stores.has_one_each();
     }
 
     /// The records and notices of the next datagram, of at most 65,535 octets. It is refused exactly where its definition refuses it, with
