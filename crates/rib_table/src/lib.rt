@@ -1,7 +1,7 @@
 //! Tables of routes: what stands of each source after a list of messages, and the longest prefix that covers an address.
 #![tactic(auto)]
 
-mod laws;
+pub mod laws;
 mod lines;
 mod longest;
 mod name;
@@ -9,5 +9,4 @@ mod route;
 mod routes;
 mod table;
 
-pub use laws::a_table_has_what_stands;
 pub use table::Table;
