@@ -7,7 +7,7 @@ use Rattle.std.specs.List.{AllByRecursion}
 use Rattle.std.specs.List.Sorted.{IsStrictlySortedBy}
 use Rattle.std.specs.Map.{keys_of, lookup}
 use Rattle.std.specs.Option.{unwrap_or}
-use Rattle.std.specs.Ordering.{is_eq, is_le, nat_cmp, ordering_then}
+use Rattle.std.specs.Ordering.{is_eq, is_le, nat_cmp, ordering_reverse, ordering_then}
 use Rattle.std.specs.declared.cmp.Ordering.{Ordering}
 use Rattle.std.specs.declared.cmp.Ordering.TheVariants.{Less, Equal, Greater}
 use Rattle.std.proofs.lemmas.Cmp.{nat_cmp_total}
@@ -24,10 +24,10 @@ use Rattle.acct_types.specs.declared.addr.Addr.{Addr}
 use Rattle.acct_types.specs.declared.rib.Rib.{Rib}
 use Rattle.acct_types.specs.declared.rib.RibSource.{RibSource}
 use Rattle.acct_types.specs.declared.route.RouteRef.{RouteRef}
-use Rattle.rib_table.specs.Choice.{IsChosen, Reaches}
+use Rattle.rib_table.specs.Choice.{IsChosen, IsFirst, Reaches}
 use Rattle.rib_table.specs.Longest.{AreNetworks, IsNetwork, best, best_of, covers, is_taken, longer, longest, route_of, route_seen, standing_route}
 use Rattle.rib_table.specs.Names.{Routed, Standing, name_cmp, name_of}
-use Rattle.rib_table.specs.Stands.{StandsFor}
+use Rattle.rib_table.specs.Stands.{StandsFor, stands}
 use Rattle.rib_table.specs.Tables.{Sources, TableState}
 use Rattle.rib_table.specs.declared.name.Name.{Name}
 use Rattle.rib_table.proofs.LongestLemmas.{Networks, all_networks, one_network}
@@ -108,6 +108,28 @@ no_longer_either own other its fails most = grind (arith, fails, most)
 
 longer_either : (own other its : ℕ) → nat_lt own other ≡ true → its ≤ own → its < other
 longer_either own other its holds most = grind (arith, holds, most)
+
+-- of two that go before each other the keys tie, and what comes behind those goes before each other too
+both_first : {K : Type 0} {R : K → K → Ordering} → IsTotalOrder R → (a b : K) (one other : Ordering) → is_le (ordering_then (R a b) one) ≡ true → is_le (ordering_then (R b a) other) ≡ true
+    → (R a b ≡ Equal) × (is_le one ≡ true) × (is_le other ≡ true)
+both_first {R = R} total a b one other first also =
+    elim (R a b) as (λ o. R a b ≡ o → is_le (ordering_then o one) ≡ true → is_le (ordering_then (ordering_reverse o) other) ≡ true → (R a b ≡ Equal) × (is_le one ≡ true) × (is_le other ≡ true)) [
+      | Less ↦ λ _ _ never. absurd (cc never)
+      | Equal ↦ λ is left right. (is, left, right)
+      | Greater ↦ λ _ never _. absurd (cc never)
+    ] refl first (ap (λ o. is_le (ordering_then o other)) (sym (total.antisymm b a)) ∙ also)
+
+then_none : (o : Ordering) → is_le (ordering_then o Equal) ≡ is_le o
+then_none Less = refl
+then_none Equal = refl
+then_none Greater = refl
+
+one_path : (p q : ℕ) → is_le (nat_cmp p q) ≡ true → is_le (nat_cmp q p) ≡ true → p ≡ q
+one_path p q first also =
+    as_long p q (both_first nat_cmp_total p q Equal Equal (then_none (nat_cmp p q) ∙ first) (then_none (nat_cmp q p) ∙ also)).0
+
+abbrev routed_of : StandingRoute → Routed
+routed_of route = record { next_hop = route.next_hop; attrs = route.attrs }
 
 -- ---- the routes of one source
 
@@ -332,3 +354,39 @@ module _ (addresses : IsTotalOrder addr_cmp) (total : IsTotalOrder name_cmp) whe
       pub route_is_chosen : (table : TableState) (messages : List Message) → StandsFor table messages → (whose : Rib) (address : Addr) → IsChosen messages whose address (route_of whose address table.sources)
       route_is_chosen table messages stands_for whose address =
           found_is table messages stands_for whose address (best_of whose address table.sources) (best_is whose address table.sources stands_for.order.order stands_for.order.names stands_for.order.networks)
+
+      -- each route that reaches the address is to a network
+      to_network : (table : TableState) (messages : List Message) → StandsFor table messages → (whose : Rib) (address : Addr) (source : RibSource) (route : StandingRoute)
+          → Reaches messages whose address source route → IsNetwork (name_of route.named)
+      to_network table messages stands_for whose address source route reaches =
+          reach_holds table messages stands_for whose address (λ _ name. IsNetwork name)
+          (all_map _ _ (λ entry networks taken. all_map _ _ (λ its is also. is) entry.1 (all_networks entry.1 (recursion_from_All IsNetwork (keys_of entry.1) networks))) table.sources stands_for.order.networks)
+          source route reaches
+
+      firsts_are_one : (table : TableState) (messages : List Message) → StandsFor table messages → (whose : Rib) (address : Addr) (source other : RibSource) (route its : StandingRoute)
+          → IsFirst messages whose address source route → IsFirst messages whose address other its → route ≡ its
+      firsts_are_one table messages stands_for whose address source other route its one also =
+          let lens = both_first nat_cmp_total its.named.len route.named.len (ordering_then (source_cmp source other) (nat_cmp route.named.path_id its.named.path_id))
+          (ordering_then (source_cmp other source) (nat_cmp its.named.path_id route.named.path_id)) (one.first other its also.reaches) (also.first source route one.reaches) in
+          let sources = both_first ordered source other (nat_cmp route.named.path_id its.named.path_id) (nat_cmp its.named.path_id route.named.path_id) lens.1 lens.2 in
+          let len : route.named.len ≡ its.named.len = sym (as_long its.named.len route.named.len lens.0) in
+          let own = to_network table messages stands_for whose address source route one.reaches in
+          let others = to_network table messages stands_for whose address other its also.reaches in
+          let addr : route.named.addr ≡ its.named.addr =
+          one_network route.named.len route.named.addr address own.cleared one.reaches.covers ∙ ap (λ l. network_of l address) len
+          ∙ sym (one_network its.named.len its.named.addr address others.cleared also.reaches.covers) in
+          let path_id = one_path route.named.path_id its.named.path_id sources.1 sources.2 in
+          let named : route.named ≡ its.named = λ i. record { addr = addr i; len = len i; path_id = path_id i } in
+          let routed : Some (routed_of route) ≡ Some (routed_of its) =
+          sym one.reaches.stands ∙ (λ i. stands (source_same source other sources.0 i) (name_of (named i)) messages) ∙ also.reaches.stands in
+          let same : routed_of route ≡ routed_of its = ap (λ o. unwrap_or o (routed_of route)) routed in
+          λ i. record { named = named i; next_hop = (same i).next_hop; attrs = (same i).attrs }
+
+      -- two routes that are chosen are one
+      pub choices_are_one : (table : TableState) (messages : List Message) → StandsFor table messages → (whose : Rib) (address : Addr) (one other : Option StandingRoute)
+          → IsChosen messages whose address one → IsChosen messages whose address other → one ≡ other
+      choices_are_one table messages stands_for whose address None None chosen also = refl
+      choices_are_one table messages stands_for whose address None (Some route) chosen also = absurd (chosen also.0 route also.1.reaches)
+      choices_are_one table messages stands_for whose address (Some route) None chosen also = absurd (also chosen.0 route chosen.1.reaches)
+      choices_are_one table messages stands_for whose address (Some route) (Some its) chosen also =
+          ap Some (firsts_are_one table messages stands_for whose address chosen.0 also.0 route its chosen.1 also.1)
