@@ -1,4 +1,4 @@
--- The route that is chosen for an address, in words of its own.
+-- The route that is chosen for an address, in words of its own: the longest prefix that covers it (RFC 4271, 9.1.4).
 use Rattle.std.specs.Prelude.{◌≡◌, true, List, Option, Some, None}
 use Rattle.std.specs.Ordering.{is_le, nat_cmp, ordering_then}
 use Rattle.std.specs.declared.cmp.Ordering.{Ordering}
