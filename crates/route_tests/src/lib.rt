@@ -1,0 +1,6 @@
+//! Tests of routes: tables of them.
+
+#![tactic(auto)]
+
+#[cfg(test)]
+mod tables;
