@@ -69,7 +69,7 @@ all_map P Q leads [] all = tt
 all_map P Q leads (x ∷ xs) all = (leads x all.0, all_map P Q leads xs all.1)
 
 -- the keys past the first are above it
-all_above : {K : Type 0} (R : K → K → Ordering) (k : K) (ks : List K) → IsStrictlySortedBy R (k ∷ ks) → AllByRecursion (λ y. R k y ≡ Less) ks
+pub all_above : {K : Type 0} (R : K → K → Ordering) (k : K) (ks : List K) → IsStrictlySortedBy R (k ∷ ks) → AllByRecursion (λ y. R k y ≡ Less) ks
 unfolding IsStrictlySortedBy
 all_above R k ks sorted = sorted.0
 
