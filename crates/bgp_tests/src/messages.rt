@@ -90,6 +90,10 @@ static HEADERS: [(&'static [u8], Result<Option<u32>, (u8, u32)>); 21] = [
     (b"\x10\x01\xff", Err((2, 16))),
 ];
 
+fn headers() -> &'static [(&'static [u8], Result<Option<u32>, (u8, u32)>)] {
+    &HEADERS
+}
+
 fn header_fault((subcode, place): (u8, u32)) -> BgpFault {
     BgpFault {
         code: 1,
@@ -100,7 +104,7 @@ fn header_fault((subcode, place): (u8, u32)) -> BgpFault {
 
 #[test]
 fn what_a_header_says(rt: HostRuntime) -> Result<(), Fail> {
-    for (rest, wanted) in &HEADERS {
+    for (rest, wanted) in headers() {
         let octets = joined(rt.alloc(), &[MARKER, rest])?;
         let wanted = match *wanted {
             Ok(size) => Ok(size),

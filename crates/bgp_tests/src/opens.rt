@@ -41,9 +41,13 @@ static FIELD_FAULTS: [(&'static [u8], Wrong); 15] = [
     (b"\x04\xfc\0\0\xb4\xc0\0\x02\x01\xff", (2, 0, 28)),
 ];
 
+fn field_faults() -> &'static [(&'static [u8], Wrong)] {
+    &FIELD_FAULTS
+}
+
 #[test]
 fn the_fields_of_an_open_are_judged_in_order(rt: HostRuntime) -> Result<(), Fail> {
-    for (body, wanted) in &FIELD_FAULTS {
+    for (body, wanted) in field_faults() {
         assert_eq!(rt; fault_of(rt.alloc(), OPEN, &[body])?, Some(*wanted));
     }
     Ok(())
@@ -83,9 +87,13 @@ static PARAMETER_FAULTS: [(Parameters, u8, u32); 20] = [
     (&[b"\x0a\x02\x06", SYSTEM_64512, b"\x01\0"], 4, 37),
 ];
 
+fn parameter_faults() -> &'static [(Parameters, u8, u32)] {
+    &PARAMETER_FAULTS
+}
+
 #[test]
 fn parameters_are_judged_in_turn(rt: HostRuntime) -> Result<(), Fail> {
-    for (parameters, subcode, place) in &PARAMETER_FAULTS {
+    for (parameters, subcode, place) in parameter_faults() {
         let parameters = joined(rt.alloc(), parameters)?;
         let fault = fault_of(rt.alloc(), OPEN, &[HEAD, parameters.as_slice()])?;
         assert_eq!(rt; fault, Some((2, *subcode, *place)));
@@ -137,9 +145,13 @@ static ADD_PATHS: [(Parameters, Option<AddPath>, Option<AddPath>); 9] = [
     (&[b"\x09\x02\x07\x45\x05\0\x01\x01\x01\0"], None, None),
 ];
 
+fn add_paths() -> &'static [(Parameters, Option<AddPath>, Option<AddPath>)] {
+    &ADD_PATHS
+}
+
 #[test]
 fn the_last_tuple_of_a_family_counts(rt: HostRuntime) -> Result<(), Fail> {
-    for (parameters, v4, v6) in &ADD_PATHS {
+    for (parameters, v4, v6) in add_paths() {
         let parameters = joined(rt.alloc(), parameters)?;
         let octets = message(rt.alloc(), OPEN, &[HEAD, parameters.as_slice()])?;
         let hello = Hello {
@@ -206,9 +218,13 @@ static HELLOS: [(Parameters, u32, bool, Option<AddPath>); 9] = [
     ),
 ];
 
+fn hellos() -> &'static [(Parameters, u32, bool, Option<AddPath>)] {
+    &HELLOS
+}
+
 #[test]
 fn the_last_system_counts(rt: HostRuntime) -> Result<(), Fail> {
-    for (parameters, asn, four_octets, add_path) in &HELLOS {
+    for (parameters, asn, four_octets, add_path) in hellos() {
         let parameters = joined(rt.alloc(), parameters)?;
         let octets = message(rt.alloc(), OPEN, &[HEAD, parameters.as_slice()])?;
         let hello = Hello {

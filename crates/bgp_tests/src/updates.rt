@@ -60,9 +60,13 @@ static LENGTH_FAULTS: [(&'static [u8], u8, u32); 10] = [
     (b"\0\0\0\x03\x40\x63\0", 2, 23),
 ];
 
+fn length_faults() -> &'static [(&'static [u8], u8, u32)] {
+    &LENGTH_FAULTS
+}
+
 #[test]
 fn lengths_are_judged_before_what_they_measure(rt: HostRuntime) -> Result<(), Fail> {
-    for (body, subcode, place) in &LENGTH_FAULTS {
+    for (body, subcode, place) in length_faults() {
         let fault = fault_of(rt.alloc(), UPDATE, &[body])?;
         assert_eq!(rt; fault, Some((3, *subcode, *place)));
     }
@@ -81,10 +85,14 @@ static BAD_PREFIXES: [(&'static [u8], u8); 8] = [
     (b"\x20\x0a\0\0\x01\x21\0\0\0\0\0", 5),
 ];
 
+fn bad_prefixes() -> &'static [(&'static [u8], u8)] {
+    &BAD_PREFIXES
+}
+
 #[test]
 fn a_prefix_is_refused_where_it_stands(rt: HostRuntime) -> Result<(), Fail> {
     let alloc = rt.alloc();
-    for (prefixes, place) in &BAD_PREFIXES {
+    for (prefixes, place) in bad_prefixes() {
         let place = u32::from(*place);
         let withdrawn = update_fault(alloc, prefixes, &[b"\x40\x63\0"], b"\x21")?;
         assert_eq!(rt; withdrawn, Some((3, 10, 21 + place)));
@@ -107,9 +115,13 @@ static CUT_ATTRIBUTES: [&'static [u8]; 7] = [
     b"\x40\x63\xff",
 ];
 
+fn cut_attributes() -> &'static [&'static [u8]] {
+    &CUT_ATTRIBUTES
+}
+
 #[test]
 fn a_cut_attribute_is_refused(rt: HostRuntime) -> Result<(), Fail> {
-    for cut in &CUT_ATTRIBUTES {
+    for cut in cut_attributes() {
         let alone = update_fault(rt.alloc(), b"", &[cut], b"\x21")?;
         assert_eq!(rt; alone, Some((3, 1, 23)));
         let behind = update_fault(rt.alloc(), b"", &[UNKNOWN, cut], b"")?;
@@ -203,9 +215,13 @@ static BAD_ATTRIBUTES: [(&'static [u8], u8); 57] = [
     (b"\x90\x0f\0\x04\0\x02\x01\x01", 9),
 ];
 
+fn bad_attributes() -> &'static [(&'static [u8], u8)] {
+    &BAD_ATTRIBUTES
+}
+
 #[test]
 fn a_bad_attribute_is_refused_where_it_stands(rt: HostRuntime) -> Result<(), Fail> {
-    for (bad, subcode) in &BAD_ATTRIBUTES {
+    for (bad, subcode) in bad_attributes() {
         let alone = update_fault(rt.alloc(), b"", &[bad], b"\x21")?;
         assert_eq!(rt; alone, Some((3, *subcode, 23)));
         let behind = update_fault(rt.alloc(), b"\0", &[UNKNOWN, bad], b"")?;
@@ -216,7 +232,7 @@ fn a_bad_attribute_is_refused_where_it_stands(rt: HostRuntime) -> Result<(), Fai
 
 #[test]
 fn the_first_bad_attribute_counts(rt: HostRuntime) -> Result<(), Fail> {
-    for (bad, subcode) in &BAD_ATTRIBUTES {
+    for (bad, subcode) in bad_attributes() {
         let before = update_fault(rt.alloc(), b"", &[bad, b"\x40\x61\0"], b"")?;
         assert_eq!(rt; before, Some((3, *subcode, 23)));
         let behind = update_fault(rt.alloc(), b"", &[b"\x40\x61\0", bad], b"")?;
@@ -239,9 +255,13 @@ static CLASSES: [(u8, u8); 10] = [
     (17, 3),
 ];
 
+fn classes() -> &'static [(u8, u8)] {
+    &CLASSES
+}
+
 #[test]
 fn a_known_attribute_has_the_flags_of_its_type(rt: HostRuntime) -> Result<(), Fail> {
-    for (kind, class) in &CLASSES {
+    for (kind, class) in classes() {
         for flags in [0x0fu8, 0x40, 0xa0, 0xc0] {
             let attribute = [flags, *kind, 1, 0xff];
             let fault = update_fault(rt.alloc(), b"", &[UNKNOWN, &attribute], b"")?;
@@ -263,9 +283,13 @@ static REPEATS: [(&'static [&'static [u8]], u32); 8] = [
     (&[b"\x80\x0f\x03\0\x07\x01", b"\x80\x0f\x03\0\x01\x01"], 29),
 ];
 
+fn repeats() -> &'static [(&'static [&'static [u8]], u32)] {
+    &REPEATS
+}
+
 #[test]
 fn an_attribute_comes_once(rt: HostRuntime) -> Result<(), Fail> {
-    for (attributes, place) in &REPEATS {
+    for (attributes, place) in repeats() {
         let fault = update_fault(rt.alloc(), b"", attributes, b"")?;
         assert_eq!(rt; fault, Some((3, 1, *place)));
     }
@@ -309,9 +333,13 @@ static LACKING: [(&'static [&'static [u8]], &'static [u8], bool); 21] = [
     (&[UNREACH, b"\xc0\x11\x06\x02\x01\0\0\xfc\0"], b"", false),
 ];
 
+fn lacking() -> &'static [(&'static [&'static [u8]], &'static [u8], bool)] {
+    &LACKING
+}
+
 #[test]
 fn announced_prefixes_need_their_attributes(rt: HostRuntime) -> Result<(), Fail> {
-    for (attributes, announced, lacks) in &LACKING {
+    for (attributes, announced, lacks) in lacking() {
         let fault = update_fault(rt.alloc(), b"\x08\x0a", attributes, announced)?;
         let wanted = if *lacks { Some((3, 3, 19)) } else { None };
         assert_eq!(rt; fault, wanted);
@@ -427,9 +455,13 @@ static PREFIXES: [Said; 9] = [
     (b"", &[NEXT_HOP, REACH_NONE], b"", b""),
 ];
 
+fn prefixes() -> &'static [Said] {
+    &PREFIXES
+}
+
 #[test]
 fn prefixes_in_their_order(rt: HostRuntime) -> Result<(), Fail> {
-    for (withdrawn, attributes, announced, wanted) in &PREFIXES {
+    for (withdrawn, attributes, announced, wanted) in prefixes() {
         let update = update_of(rt.alloc(), &WIDE, withdrawn, attributes, announced)?;
         let line = prefixes_line(rt.alloc(), &update)?;
         assert_eq!(rt; line.as_slice(), *wanted);
@@ -485,9 +517,13 @@ static REACHES: [(&'static [&'static [u8]], &'static [u8]); 7] = [
     (&[b"\x80\x0e\x16\0\x02\x02\x10", HOP_V6, b"\0\0"], b""),
 ];
 
+fn reaches() -> &'static [(&'static [&'static [u8]], &'static [u8])] {
+    &REACHES
+}
+
 #[test]
 fn a_next_hop_s_length_decides_its_family(rt: HostRuntime) -> Result<(), Fail> {
-    for (parts, wanted) in &REACHES {
+    for (parts, wanted) in reaches() {
         let reach = joined(rt.alloc(), parts)?;
         let attributes = [ORIGIN, PATH, reach.as_slice()];
         let update = update_of(rt.alloc(), &WIDE, b"", &attributes, b"")?;
@@ -523,9 +559,13 @@ static ATTRIBUTES: [(&'static [&'static [u8]], &'static [u8]); 11] = [
     ),
 ];
 
+fn attributes() -> &'static [(&'static [&'static [u8]], &'static [u8])] {
+    &ATTRIBUTES
+}
+
 #[test]
 fn what_attributes_say(rt: HostRuntime) -> Result<(), Fail> {
-    for (attributes, wanted) in &ATTRIBUTES {
+    for (attributes, wanted) in attributes() {
         let update = update_of(rt.alloc(), &WIDE, b"", attributes, b"")?;
         let line = attributes_line(rt.alloc(), &update)?;
         assert_eq!(rt; line.as_slice(), *wanted);
@@ -586,9 +626,13 @@ static SHORT_PATHS: [(&'static [&'static [u8]], &'static [u8]); 19] = [
     (&[b"\x40\x02\0", ONE], b""),
 ];
 
+fn short_paths() -> &'static [(&'static [&'static [u8]], &'static [u8])] {
+    &SHORT_PATHS
+}
+
 #[test]
 fn the_later_path_replaces_the_last_hops(rt: HostRuntime) -> Result<(), Fail> {
-    for (attributes, wanted) in &SHORT_PATHS {
+    for (attributes, wanted) in short_paths() {
         let update = update_of(rt.alloc(), &NARROW, b"", attributes, b"")?;
         let mut path = Octets::new(rt.alloc());
         update.attrs.append_path_text(&mut path)?;
@@ -612,9 +656,13 @@ static LONG_PATHS: [(&'static [&'static [u8]], &'static [u8]); 7] = [
     ),
 ];
 
+fn long_paths() -> &'static [(&'static [&'static [u8]], &'static [u8])] {
+    &LONG_PATHS
+}
+
 #[test]
 fn a_path_of_long_numbers_stands(rt: HostRuntime) -> Result<(), Fail> {
-    for (attributes, wanted) in &LONG_PATHS {
+    for (attributes, wanted) in long_paths() {
         let update = update_of(rt.alloc(), &WIDE, b"", attributes, b"")?;
         let mut path = Octets::new(rt.alloc());
         update.attrs.append_path_text(&mut path)?;
@@ -641,9 +689,13 @@ static WHOLE: [(&'static [u8], Agreed, &'static [u8]); 3] = [
     (AGGREGATED, WIDE, b"0 64512_64513 - - "),
 ];
 
+fn whole() -> &'static [(&'static [u8], Agreed, &'static [u8])] {
+    &WHOLE
+}
+
 #[test]
 fn what_whole_messages_say(rt: HostRuntime) -> Result<(), Fail> {
-    for (octets, agreed, wanted) in &WHOLE {
+    for (octets, agreed, wanted) in whole() {
         let octets = joined(rt.alloc(), &[&[255; 16], octets])?;
         let update = update_in(rt.alloc(), octets.as_slice(), agreed)?;
         let attributes = attributes_line(rt.alloc(), &update)?;
