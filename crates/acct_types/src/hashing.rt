@@ -16,13 +16,6 @@ impl Hashing {
             initial: keys.build_hasher(),
         })
     }
-
-    /// With keys that are the same in every run, for tests.
-    pub fn fixed() -> Hashing {
-        Hashing {
-            initial: DefaultHasher::new(),
-        }
-    }
 }
 
 impl BuildHasher for Hashing {

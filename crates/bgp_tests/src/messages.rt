@@ -3,6 +3,7 @@ use bgp_msg::{
     Agreed, BgpFault, BgpMessage, BgpRefusal, frame, read_message, write_keepalive,
     write_notification, write_open,
 };
+use fixtures::joined;
 use std::alloc::Global;
 use std::test::Fail;
 
@@ -22,14 +23,6 @@ const MARKER: &[u8] = &[255; 16];
 
 // What is wrong with a message: code, subcode and place.
 pub(crate) type Wrong = (u8, u8, u32);
-
-pub(crate) fn joined(alloc: Global, parts: &[&[u8]]) -> Result<Octets, NoMemory> {
-    let mut octets = Octets::new(alloc);
-    for part in parts {
-        octets.extend(part)?;
-    }
-    Ok(octets)
-}
 
 // A whole message of a type, whose body is these parts.
 pub(crate) fn message(alloc: Global, kind: u8, parts: &[&[u8]]) -> Result<Octets, NoMemory> {

@@ -1,5 +1,6 @@
-use crate::messages::{NARROW, Wrong, fault_of, joined, message, read};
+use crate::messages::{NARROW, Wrong, fault_of, message, read};
 use bgp_msg::{AddPath, BgpMessage, Hello};
+use fixtures::joined;
 use std::test::Fail;
 
 const OPEN: u8 = 1;

@@ -1,6 +1,7 @@
-use crate::messages::{NARROW, WIDE, Wrong, fault_of, joined, message, read};
+use crate::messages::{NARROW, WIDE, Wrong, fault_of, message, read};
 use acct_types::{AddressText, NoMemory, Octets, Update, append_decimal};
 use bgp_msg::{Agreed, BgpMessage};
+use fixtures::joined;
 use std::alloc::Global;
 use std::test::Fail;
 

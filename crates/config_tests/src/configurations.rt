@@ -1,8 +1,9 @@
-use acct_types::{Addr, AsFrom, Column, Layout, NoMemory, Octets, Primitives, Text};
+use acct_types::{Addr, AsFrom, Column, Layout, Primitives, Text};
 use config_keys::{
     Config, ConfigCause, ConfigFault, PluginConfig, PluginKind, Tool, UsageFault, Words,
     has_output, read_config, read_words,
 };
+use fixtures::joined;
 use std::alloc::{AllocError, Global};
 use std::test::Fail;
 
@@ -602,14 +603,6 @@ fn lines() -> &'static [Line] {
     &LINES
 }
 
-// A text behind another one.
-fn joined(alloc: Global, base: &[u8], text: &[u8]) -> Result<Octets, NoMemory> {
-    let mut whole = Octets::new(alloc);
-    whole.extend(base)?;
-    whole.extend(text)?;
-    Ok(whole)
-}
-
 #[test]
 fn configurations_have_their_faults(rt: HostRuntime) -> Result<(), Fail> {
     for (index, (tool, text, line, cause)) in faults().iter().enumerate() {
@@ -625,7 +618,7 @@ fn configurations_have_their_faults(rt: HostRuntime) -> Result<(), Fail> {
             line: *line,
             cause: *cause,
         };
-        let whole = joined(rt.alloc(), BASE, text)?;
+        let whole = joined(rt.alloc(), &[BASE, text])?;
         let found = fault_of(rt.alloc(), Tool::Nfacctd, whole.as_slice())?;
         assert_eq!(rt; found, Some(wanted), "behind the base, {index}");
     }
@@ -668,7 +661,7 @@ fn has_names(config: &Config, wanted: &Taken) -> bool {
 #[test]
 fn configurations_are_read(rt: HostRuntime) -> Result<(), Fail> {
     for (index, wanted) in taken_ones().iter().enumerate() {
-        let whole = joined(rt.alloc(), wanted.base, wanted.text)?;
+        let whole = joined(rt.alloc(), &[wanted.base, wanted.text])?;
         let config = read(rt.alloc(), wanted.tool, whole.as_slice())?;
         assert!(rt; has_plugin(&config, wanted), "the plugin of {index}");
         assert!(rt; has_numbers(&config, wanted), "the numbers of {index}");

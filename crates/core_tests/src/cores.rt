@@ -3,9 +3,10 @@
 ghost use Rattle.std.specs.Prelude.{◌≡◌, None, false, true, IsTrue};
 ghost use Rattle.collect_core.specs.Job.{collects};
 
-use acct_types::{Addr, Counts, Datagram, Hashing, List, NoMemory, Octets};
+use acct_types::{Addr, Counts, Datagram, List, NoMemory, Octets};
 use collect_core::{Core, Job, Limits, RunEnd, collects, run_alone};
 use config_keys::{Config, Tool, read_config};
+use fixtures::same_hashing;
 use out_text::Totals;
 use outside_io::{
     Datagrams, InputFault, IoFault, MemoryFlows, MemorySink, NoRoutes, OutEnd, SideEnd, Sink,
@@ -178,7 +179,7 @@ fn run(alloc: Global, given: &Given) -> Result<Left, Fail> {
     let most = limits(given.most);
     let end = run_alone(
         alloc,
-        Hashing::fixed(),
+        same_hashing()?,
         &job,
         &mut flows,
         &mut NoRoutes::new(alloc),
@@ -766,7 +767,7 @@ fn lines_are_written_before_the_next_datagram_is_asked_for(rt: HostRuntime) -> R
     }
     let end = run_alone(
         alloc,
-        Hashing::fixed(),
+        same_hashing()?,
         &job,
         &mut flows,
         &mut NoRoutes::new(alloc),
@@ -816,7 +817,7 @@ fn is_step(
     if !collects(job.config.tool) || datagram.octets.len() > 65_535 {
         return Err("there is no such step".into());
     }
-    let step = Core::new(alloc, Hashing::fixed(), job).datagram(job, &datagram, most)?;
+    let step = Core::new(alloc, same_hashing()?, job).datagram(job, &datagram, most)?;
     let (events, loads, full) = wanted;
     if step.events.len() != events || step.loads.len() != loads.len() || step.full != full {
         return Ok(false);

@@ -1,5 +1,6 @@
-use acct_types::{Addr, Datagram, FlowRecord, Hashing, NoMemory, Octets};
+use acct_types::{Addr, Datagram, FlowRecord, NoMemory, Octets};
 use config_keys::Tool;
+use fixtures::{joined, same_hashing};
 use flow_decode::{Decoded, Decoder, FeedFault};
 use flow_templates::{Cause, Notice, NoticeCause, Undecodable};
 use pretag_map::{SamplingMap, read_sampling_map};
@@ -162,14 +163,6 @@ fn from_second(step: Step<'_>) -> Step<'_> {
     }
 }
 
-fn joined(alloc: Global, parts: &[&[u8]]) -> Result<Octets, NoMemory> {
-    let mut octets = Octets::new(alloc);
-    for part in parts {
-        octets.extend(part)?;
-    }
-    Ok(octets)
-}
-
 fn octets_of(alloc: Global, header: Header, parts: &[&[u8]]) -> Result<Octets, NoMemory> {
     let sets = joined(alloc, parts)?;
     match header {
@@ -265,7 +258,7 @@ fn first_wrong(
 
 // What nfacctd decodes, as it stands.
 fn plain(alloc: Global, steps: &[Step]) -> Result<Option<usize>, Fail> {
-    let mut decoder = Decoder::new(alloc, Hashing::fixed(), Tool::Nfacctd, false);
+    let mut decoder = Decoder::new(alloc, same_hashing()?, Tool::Nfacctd, false);
     first_wrong(alloc, &mut decoder, &SamplingMap::empty(alloc), steps)
 }
 
@@ -275,7 +268,7 @@ fn renormalised(alloc: Global, map: &[u8], steps: &[Step]) -> Result<Option<usiz
         return Err("too long".into());
     }
     let map = read_sampling_map(alloc, map).map_err(|_| "no map")?;
-    let mut decoder = Decoder::new(alloc, Hashing::fixed(), Tool::Nfacctd, true);
+    let mut decoder = Decoder::new(alloc, same_hashing()?, Tool::Nfacctd, true);
     first_wrong(alloc, &mut decoder, &map, steps)
 }
 
@@ -597,7 +590,7 @@ fn sfacctd_reads_sflow_alone(rt: HostRuntime) -> Result<(), Fail> {
     let alloc = rt.alloc();
     let map = SamplingMap::empty(alloc);
     for (renormalise, wanted) in [(false, (1500, 1)), (true, (600_000, 400))] {
-        let mut decoder = Decoder::new(alloc, Hashing::fixed(), Tool::Sfacctd, renormalise);
+        let mut decoder = Decoder::new(alloc, same_hashing()?, Tool::Sfacctd, renormalise);
         let wrong = first_wrong(
             alloc,
             &mut decoder,

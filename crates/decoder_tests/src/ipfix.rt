@@ -1,4 +1,5 @@
-use acct_types::{Addr, Counts, FlowRecord, Hashing, NoMemory, Octets};
+use acct_types::{Addr, Counts, FlowRecord};
+use fixtures::{joined, same_hashing};
 use flow_templates::{
     Cause, Domain, Notice, NoticeCause, RawDecoded, RawRecord, Staged, Stores, Undecodable,
 };
@@ -41,14 +42,6 @@ const VARIABLE: &[u8] = &[
     0, 2, 0, 20, 1, 2, 0, 2, 0x80, 1, 255, 255, 0, 0, 0, 9, 0, 1, 0, 1,
 ];
 
-fn joined(alloc: Global, parts: &[&[u8]]) -> Result<Octets, NoMemory> {
-    let mut octets = Octets::new(alloc);
-    for part in parts {
-        octets.extend(part)?;
-    }
-    Ok(octets)
-}
-
 // What octets say behind what the stores know, and what they teach.
 fn said_alone(
     alloc: Global,
@@ -58,7 +51,7 @@ fn said_alone(
     if octets.len() > 65535 {
         return Err("too long".into());
     }
-    let mut staged = Staged::new(alloc, Hashing::fixed());
+    let mut staged = Staged::new(alloc, same_hashing()?);
     let decoded = decode_ipfix(alloc, stores, &mut staged, &EXPORTER, octets);
     Ok((decoded, staged))
 }
@@ -85,7 +78,7 @@ fn domain(id: u32) -> Domain {
 
 #[test]
 fn a_record_field_by_field(rt: HostRuntime) -> Result<(), Fail> {
-    let stores = Stores::new(rt.alloc(), Hashing::fixed());
+    let stores = Stores::new(rt.alloc(), same_hashing()?);
     let (decoded, _) = said(
         rt.alloc(),
         &stores,
@@ -133,7 +126,7 @@ fn a_record_field_by_field(rt: HostRuntime) -> Result<(), Fail> {
 
 #[test]
 fn what_a_message_teaches_is_staged(rt: HostRuntime) -> Result<(), Fail> {
-    let mut stores = Stores::new(rt.alloc(), Hashing::fixed());
+    let mut stores = Stores::new(rt.alloc(), same_hashing()?);
     let (decoded, staged) = said(
         rt.alloc(),
         &stores,
@@ -173,7 +166,7 @@ fn a_withdrawal_is_staged(rt: HostRuntime) -> Result<(), Fail> {
         (&[0, 3, 0, 8, 1, 0, 0, 0], true, false),
     ];
     for (withdrawal, template, options) in cases {
-        let mut stores = Stores::new(rt.alloc(), Hashing::fixed());
+        let mut stores = Stores::new(rt.alloc(), same_hashing()?);
         let (_, staged) = said(rt.alloc(), &stores, &[HEADER, TEMPLATE, OPTIONS])?;
         staged.commit(&mut stores)?;
         let (decoded, staged) = said(rt.alloc(), &stores, &[HEADER, withdrawal])?;
@@ -187,7 +180,7 @@ fn a_withdrawal_is_staged(rt: HostRuntime) -> Result<(), Fail> {
 
 #[test]
 fn data_of_another_domain_have_no_template(rt: HostRuntime) -> Result<(), Fail> {
-    let mut stores = Stores::new(rt.alloc(), Hashing::fixed());
+    let mut stores = Stores::new(rt.alloc(), same_hashing()?);
     let (_, staged) = said(rt.alloc(), &stores, &[HEADER, TEMPLATE])?;
     staged.commit(&mut stores)?;
     let (decoded, _) = said(rt.alloc(), &stores, &[&HEADER[..11], &[5], DATA])?;
@@ -219,7 +212,7 @@ fn a_header_is_judged(rt: HostRuntime) -> Result<(), Fail> {
     ];
     for (front, header, cause) in cases {
         let octets = joined(rt.alloc(), &[front, header])?;
-        let stores = Stores::new(rt.alloc(), Hashing::fixed());
+        let stores = Stores::new(rt.alloc(), same_hashing()?);
         let (decoded, _) = said_alone(rt.alloc(), &stores, octets.as_slice())?;
         assert_eq!(rt; decoded.err(), cause.map(Undecodable::Refused));
     }
@@ -241,7 +234,7 @@ fn octets_past_the_length_are_ignored(rt: HostRuntime) -> Result<(), Fail> {
             rt.alloc(),
             &[front, HEADER, &[1, 0, 0, 8, 1, 2, 3, 4], &[1, 0, 0]],
         )?;
-        let stores = Stores::new(rt.alloc(), Hashing::fixed());
+        let stores = Stores::new(rt.alloc(), same_hashing()?);
         let (decoded, _) = said_alone(rt.alloc(), &stores, octets.as_slice())?;
         match decoded {
             Ok(decoded) => {
@@ -267,7 +260,7 @@ fn fields_of_variable_length_are_walked(rt: HostRuntime) -> Result<(), Fail> {
         (&[1, 2, 0, 6, 255, 0], Some(Cause::VarCut), &[]),
     ];
     for (data, cause, bytes) in cases {
-        let stores = Stores::new(rt.alloc(), Hashing::fixed());
+        let stores = Stores::new(rt.alloc(), same_hashing()?);
         let (decoded, _) = said(rt.alloc(), &stores, &[HEADER, VARIABLE, data])?;
         match decoded {
             Ok(decoded) => {

@@ -1,4 +1,5 @@
-use acct_types::{Addr, Counts, FlowRecord, Hashing, NoMemory, Octets};
+use acct_types::{Addr, Counts, FlowRecord};
+use fixtures::{joined, same_hashing};
 use flow_templates::{Domain, Staged, Stores};
 use netflow_in::{
     Cause, Notice, NoticeCause, RawDecoded, RawRecord, Undecodable, decode_v5, decode_v9,
@@ -184,14 +185,6 @@ const OPTIONS: &[u8] = &[
 
 const OPTION_DATA: &[u8] = &[1, 1, 0, 10, 0, 7, 0, 0, 0, 50];
 
-fn joined(alloc: Global, parts: &[&[u8]]) -> Result<Octets, NoMemory> {
-    let mut octets = Octets::new(alloc);
-    for part in parts {
-        octets.extend(part)?;
-    }
-    Ok(octets)
-}
-
 // What a datagram of these parts says behind what the stores know, and what it teaches.
 fn said(
     alloc: Global,
@@ -202,13 +195,13 @@ fn said(
     if octets.len() > 65535 {
         return Err("too long".into());
     }
-    let mut staged = Staged::new(alloc, Hashing::fixed());
+    let mut staged = Staged::new(alloc, same_hashing()?);
     let decoded = decode_v9(alloc, stores, &mut staged, &EXPORTER, octets.as_slice());
     Ok((decoded, staged))
 }
 
 fn refusal(alloc: Global, parts: &[&[u8]]) -> Result<Option<Undecodable>, Fail> {
-    let (decoded, _) = said(alloc, &Stores::new(alloc, Hashing::fixed()), parts)?;
+    let (decoded, _) = said(alloc, &Stores::new(alloc, same_hashing()?), parts)?;
     Ok(decoded.err())
 }
 
@@ -222,7 +215,7 @@ fn domain(id: u32) -> Domain {
 
 #[test]
 fn a_record_of_version_9_field_by_field(rt: HostRuntime) -> Result<(), Fail> {
-    let stores = Stores::new(rt.alloc(), Hashing::fixed());
+    let stores = Stores::new(rt.alloc(), same_hashing()?);
     let (decoded, _) = said(rt.alloc(), &stores, &[HEADER_9, TEMPLATE, DATA])?;
     let decoded = decoded.map_err(|_| "refused")?;
     let [row] = decoded.rows.as_slice() else {
@@ -266,7 +259,7 @@ fn a_record_of_version_9_field_by_field(rt: HostRuntime) -> Result<(), Fail> {
 
 #[test]
 fn the_count_of_version_9_is_not_judged(rt: HostRuntime) -> Result<(), Fail> {
-    let stores = Stores::new(rt.alloc(), Hashing::fixed());
+    let stores = Stores::new(rt.alloc(), same_hashing()?);
     for count in [
         b"\0\0".as_slice(),
         b"\0\x02".as_slice(),
@@ -282,7 +275,7 @@ fn the_count_of_version_9_is_not_judged(rt: HostRuntime) -> Result<(), Fail> {
 
 #[test]
 fn what_version_9_teaches_is_staged(rt: HostRuntime) -> Result<(), Fail> {
-    let mut stores = Stores::new(rt.alloc(), Hashing::fixed());
+    let mut stores = Stores::new(rt.alloc(), same_hashing()?);
     let (decoded, staged) = said(
         rt.alloc(),
         &stores,
@@ -315,7 +308,7 @@ fn what_version_9_teaches_is_staged(rt: HostRuntime) -> Result<(), Fail> {
 
 #[test]
 fn data_of_another_source_have_no_template(rt: HostRuntime) -> Result<(), Fail> {
-    let mut stores = Stores::new(rt.alloc(), Hashing::fixed());
+    let mut stores = Stores::new(rt.alloc(), same_hashing()?);
     let (_, staged) = said(rt.alloc(), &stores, &[HEADER_9, TEMPLATE])?;
     staged.commit(&mut stores)?;
     let (decoded, _) = said(rt.alloc(), &stores, &[&HEADER_9[..19], &[5], OPTIONS, DATA])?;

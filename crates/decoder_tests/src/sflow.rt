@@ -1,4 +1,5 @@
 use acct_types::{Addr, Counts, FlowRecord, List, NoMemory};
+use fixtures::joined;
 use sflow_in::{
     Cause, HeaderFault, HeaderFields, NoticeCause, RawDecoded, RawRecord, Undecodable,
     decode_sflow, read_sampled_header,
@@ -71,14 +72,6 @@ const ODD: &[u8] = b"\0\0\x10\x01\0\0\0\x03odd\0";
 const COUNTERS: &[u8] = b"\0\0\0\x02\0\0\0\x0c\0\0\0\0\0\0\0\0\0\0\0\0";
 
 const ZEROS: [u8; 44] = [0; 44];
-
-fn joined(alloc: Global, parts: &[&[u8]]) -> Result<List<u8>, NoMemory> {
-    let mut octets = List::new(alloc);
-    for part in parts {
-        octets.extend(part)?;
-    }
-    Ok(octets)
-}
 
 fn length_of(octets: &List<u8>) -> u32 {
     u32::try_from(octets.len()).unwrap_or(0)

@@ -5,6 +5,7 @@ use acct_types::{Act, Addr, Datagram, List, NoMemory, Octets, RouteEvent, Side};
 use capture_file::{
     CaptureFlows, CaptureReader, CaptureRoutes, Step, write_flow, write_magic, write_route,
 };
+use fixtures::joined;
 use outside_io::{Datagrams, InputFault, MemorySource, Sessions};
 use std::alloc::Global;
 use std::test::Fail;
@@ -22,14 +23,6 @@ const WIDE: &[u8] =
 const LONGEST: &[u8] = b"\x04\0\0\0\0\0\0\x03\xe8\xc0\0\x02\x01\xc3\x50\0\0\xff\xff";
 
 const LONGER: &[u8] = b"\x04\0\0\0\0\0\0\x03\xe8\xc0\0\x02\x01\xc3\x50\0\x01\0\0";
-
-fn joined(alloc: Global, parts: &[&[u8]]) -> Result<List<u8>, NoMemory> {
-    let mut octets = List::new(alloc);
-    for part in parts {
-        octets.extend(part)?;
-    }
-    Ok(octets)
-}
 
 fn is_datagram(d: &Datagram, moment: u64, exporter: Addr, port: u16, octets: &[u8]) -> bool {
     d.moment == moment && d.exporter == exporter && d.port == port && d.octets.as_slice() == octets

@@ -1,7 +1,8 @@
 ghost use Rattle.std.specs.Prelude.{◌≡◌, ◌<◌, ◌^◌, [], length};
 ghost use Rattle.acct_types.specs.Counts.{IsBelow};
 
-use acct_types::{Addr, Counts, Hashing, Item, Key, List, NoMemory, Purge};
+use acct_types::{Addr, Counts, Item, Key, List, NoMemory, Purge};
+use fixtures::same_hashing;
 use plugin_cache::{Aggregate, Cache, few_items_fit};
 use std::alloc::Global;
 use std::test::Fail;
@@ -207,7 +208,7 @@ fn are_rows(alloc: Global, rows: &[(Key, Counts)], want: &[Row]) -> Result<bool,
 #[test]
 fn one_key_has_one_row(rt: HostRuntime) -> Result<(), Fail> {
     let alloc = rt.alloc();
-    let mut sums = Aggregate::new(alloc, Hashing::fixed());
+    let mut sums = Aggregate::new(alloc, same_hashing()?);
     let counts = Counts {
         bytes: 840,
         packets: 10,
@@ -228,7 +229,7 @@ fn items_are_purged_in_slices(rt: HostRuntime) -> Result<(), Fail> {
     let alloc = rt.alloc();
     for case in &CASES {
         assert!(rt; case.limit != Some(0) && case.refresh != Some(0));
-        let cache = Cache::open(alloc, Hashing::fixed(), case.limit, case.refresh)?;
+        let cache = Cache::open(alloc, same_hashing()?, case.limit, case.refresh)?;
         assert!(rt; case.items.len() < 100);
         let purges = purges_of(alloc, cache, case.items)?;
         assert_eq!(rt; purges.len(), case.want.len(), "{}", case.name);

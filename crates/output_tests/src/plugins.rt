@@ -2,8 +2,9 @@ ghost use Rattle.std.specs.Prelude.{◌≡◌, ◌<◌, ◌^◌, length};
 ghost use Rattle.acct_types.specs.Counts.{IsBelow};
 ghost use Rattle.config_keys.specs.Ranges.{IsWithin};
 
-use acct_types::{Column, Counts, Hashing, Item, Key, Layout, List, NoMemory, Primitives, Text};
+use acct_types::{Column, Counts, Item, Key, Layout, List, NoMemory, Primitives, Text};
 use config_keys::{PluginConfig, PluginKind};
+use fixtures::same_hashing;
 use outside_io::{MemorySink, OutEnd};
 use plugin_work::{Plugin, PluginEnd};
 use std::alloc::Global;
@@ -216,7 +217,7 @@ fn run(
     }
     let config = config(alloc, case)?;
     let out = MemorySink::new(alloc, most, writes);
-    let Ok(mut plugin) = Plugin::start(alloc, Hashing::fixed(), &config, out) else {
+    let Ok(mut plugin) = Plugin::start(alloc, same_hashing()?, &config, out) else {
         return Err(NoMemory);
     };
     take_all(alloc, &mut plugin, case.items)?;

@@ -1,7 +1,8 @@
 use crate::test_runs::{is_held, words_of};
 use acct_top::{Answer, AnyCause, BadCause, account_alone, account_in_memory, status};
-use acct_types::{Hashing, List, NoMemory, Octets, Text};
+use acct_types::{List, NoMemory, Octets, Text};
 use config_keys::{ConfigCause, Tool};
+use fixtures::same_hashing;
 use outside_io::{MemoryPlace, MemorySink};
 use std::alloc::Global;
 use std::test::Fail;
@@ -142,7 +143,7 @@ const ONE_ROW: After = After {
     audit: Some(AUDIT),
 };
 
-fn joined(alloc: Global, parts: &[Part]) -> Result<Octets, NoMemory> {
+fn repeated(alloc: Global, parts: &[Part]) -> Result<Octets, NoMemory> {
     let mut octets = Octets::new(alloc);
     for (times, part) in parts {
         for _ in 0..*times {
@@ -166,7 +167,7 @@ fn put(
 
 fn octets_of(alloc: Global, parts: Option<&[Part]>) -> Result<Option<Octets>, NoMemory> {
     match parts {
-        Some(parts) => Ok(Some(joined(alloc, parts)?)),
+        Some(parts) => Ok(Some(repeated(alloc, parts)?)),
         None => Ok(None),
     }
 }
@@ -266,7 +267,7 @@ fn difference(alloc: Global, before: &Before, after: &After) -> Result<&'static 
     let mut say = MemorySink::new(alloc, 5, List::from_slice(alloc, before.says)?);
     let answer = account_alone(
         alloc,
-        Hashing::fixed(),
+        same_hashing()?,
         Tool::Nfacctd,
         &words,
         &mut place,
@@ -1044,7 +1045,7 @@ fn inputs_that_are_missing_torn_or_lost(rt: HostRuntime) -> Result<(), Fail> {
 
 // So many datagrams of thirty records under three keys.
 fn many_datagrams(alloc: Global, count: usize) -> Result<Octets, NoMemory> {
-    let datagram = joined(
+    let datagram = repeated(
         alloc,
         &[
             (1, OF_1464),
@@ -1077,7 +1078,7 @@ fn rows_of_many_records_order_by_number(rt: HostRuntime) -> Result<(), Fail> {
     let mut say = MemorySink::new(alloc, 5, List::new(alloc));
     let answer = account_in_memory(
         alloc,
-        Hashing::fixed(),
+        same_hashing()?,
         Tool::Nfacctd,
         &words,
         &mut place,

@@ -1,7 +1,8 @@
 use crate::faults::{CONFIG, ROWS};
 use crate::test_runs::{is_held, words_of};
-use acct_types::{Hashing, List, NoMemory, Octets, Text};
+use acct_types::{List, NoMemory, Octets, Text};
 use config_keys::Tool;
+use fixtures::same_hashing;
 use outside_io::{MemoryPlace, MemorySink};
 use program::run_words;
 use std::alloc::Global;
@@ -46,7 +47,7 @@ fn difference(alloc: Global, case: &Case) -> Result<&'static str, Fail> {
     let words = words_of(alloc, words)?;
     let status = run_words(
         alloc,
-        Hashing::fixed(),
+        same_hashing()?,
         Tool::Nfacctd,
         &words,
         &mut place,

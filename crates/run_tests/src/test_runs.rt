@@ -1,8 +1,9 @@
 //! Runs over a place in memory, for tests: what is given, and in what the outcome differs from what is wanted.
 
 use acct_top::{account_alone, status};
-use acct_types::{Hashing, List, NoMemory, Octets, Text};
+use acct_types::{List, NoMemory, Octets, Text};
 use config_keys::Tool;
+use fixtures::{joined, same_hashing};
 use outside_io::{MemoryPlace, MemorySink};
 use std::alloc::Global;
 use std::test::Fail;
@@ -88,14 +89,6 @@ fn version_5(alloc: Global, sources: &[u8]) -> Result<Octets, NoMemory> {
         octets.extend(&[10, 0, 0, *source, 10, 0, 0, 2])?;
         octets.extend(b"\0\0\0\0\0\0\0\0\0\0\0\x0a\0\0\x03\x48")?;
         octets.extend(b"\0\0\0\0\0\0\0\0\x04\0\0\x50\0\0\x06\0\0\0\0\0\0\0\0\0")?;
-    }
-    Ok(octets)
-}
-
-fn joined(alloc: Global, parts: &[&[u8]]) -> Result<Octets, NoMemory> {
-    let mut octets = Octets::new(alloc);
-    for part in parts {
-        octets.extend(part)?;
     }
     Ok(octets)
 }
@@ -221,7 +214,7 @@ pub(crate) fn difference(
     let mut say = MemorySink::new(alloc, 64, List::new(alloc));
     let answer = account_alone(
         alloc,
-        Hashing::fixed(),
+        same_hashing()?,
         given.tool,
         &words,
         &mut place,

@@ -1,4 +1,5 @@
-use acct_types::{Addr, Counts, FlowRecord, Hashing, NoMemory};
+use acct_types::{Addr, Counts, FlowRecord, NoMemory};
+use fixtures::same_hashing;
 use flow_sets::read_sets;
 use flow_templates::{
     Cause, Domain, Notice, NoticeCause, RawDecoded, RawRecord, Staged, Stores, Undecodable,
@@ -38,8 +39,8 @@ fn decode_octets(alloc: Global, ipfix: bool, octets: &[u8]) -> Result<RawDecoded
         version,
         id: 77,
     };
-    let stores = Stores::new(alloc, Hashing::fixed());
-    let mut staged = Staged::new(alloc, Hashing::fixed());
+    let stores = Stores::new(alloc, same_hashing()?);
+    let mut staged = Staged::new(alloc, same_hashing()?);
     let size = octets.len().min(65535);
     read_sets(alloc, &stores, &mut staged, &domain, &octets[..size])
 }

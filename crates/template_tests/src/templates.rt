@@ -1,7 +1,8 @@
 ghost use Rattle.std.specs.Prelude.{◌≡◌, ◌⊎◌, IfOk};
 ghost use Rattle.flow_templates.specs.Templates.{DefinesAccepted, IsDefined};
 
-use acct_types::{Addr, Hashing};
+use acct_types::Addr;
+use fixtures::same_hashing;
 use flow_templates::{
     Domain, Staged, Stores, Template, TemplateFault, TemplateTurn, TemplateWhat,
     read_options_template, read_template,
@@ -296,7 +297,7 @@ fn any_width_will_do_for_an_element_that_is_not_read(rt: HostRuntime) {
 
 #[test]
 fn an_id_is_one_of_its_domain(rt: HostRuntime) -> Result<(), Fail> {
-    let mut stores = Stores::new(rt.alloc(), Hashing::fixed());
+    let mut stores = Stores::new(rt.alloc(), same_hashing()?);
     let store = &mut stores.templates;
     store.put(&domain(1), 300, accepted(rt.alloc(), OTHERS)?)?;
     store.put(&domain(2), 300, accepted(rt.alloc(), OPTIONS)?)?;
@@ -314,7 +315,7 @@ fn an_id_is_one_of_its_domain(rt: HostRuntime) -> Result<(), Fail> {
 
 #[test]
 fn the_same_id_elsewhere_is_another_template(rt: HostRuntime) -> Result<(), Fail> {
-    let mut stores = Stores::new(rt.alloc(), Hashing::fixed());
+    let mut stores = Stores::new(rt.alloc(), same_hashing()?);
     let store = &mut stores.templates;
     let other = addresses(rt.alloc(), 10)?;
     store.put(&other_version(), 300, other)?;
@@ -332,7 +333,7 @@ fn the_same_id_elsewhere_is_another_template(rt: HostRuntime) -> Result<(), Fail
 
 #[test]
 fn an_id_of_one_kind_gives_way_to_the_other(rt: HostRuntime) -> Result<(), Fail> {
-    let mut stores = Stores::new(rt.alloc(), Hashing::fixed());
+    let mut stores = Stores::new(rt.alloc(), same_hashing()?);
     let store = &mut stores.templates;
     store.put(&domain(1), 300, accepted(rt.alloc(), OTHERS)?)?;
     store.put(&domain(1), 301, accepted(rt.alloc(), OTHERS)?)?;
@@ -348,7 +349,7 @@ fn an_id_of_one_kind_gives_way_to_the_other(rt: HostRuntime) -> Result<(), Fail>
 
 // The templates with the ids 256 to 355, of which the even ones are in domain 0 and the odd ones in domain 1.
 fn put_many(stores: &mut Stores, alloc: Global) -> Result<(), Fail> {
-    let mut staged = Staged::new(alloc, Hashing::fixed());
+    let mut staged = Staged::new(alloc, same_hashing()?);
     for id in 256..356 {
         staged.put(&domain(u32::from(id % 2)), id, accepted(alloc, OTHERS)?)?;
     }
@@ -368,7 +369,7 @@ fn count_of(stores: &Stores, number: u32) -> u32 {
 
 #[test]
 fn many_templates_of_a_domain_are_withdrawn_and_put_again(rt: HostRuntime) -> Result<(), Fail> {
-    let mut stores = Stores::new(rt.alloc(), Hashing::fixed());
+    let mut stores = Stores::new(rt.alloc(), same_hashing()?);
     put_many(&mut stores, rt.alloc())?;
     stores.templates.withdraw(&domain(0), 300);
     stores.templates.withdraw_all(&domain(1), OTHERS);
@@ -407,12 +408,12 @@ fn kept_in(stores: &Stores) -> Option<bool> {
 // The kind of the template 300 that is found in domain 1 after the changes of a datagram, where one of a kind was kept: the same
 // while they are staged and once they are committed, and the store keeps what it had until then.
 fn left_by(alloc: Global, kept: Option<bool>, changes: &[Given]) -> Result<Option<bool>, Fail> {
-    let mut stores = Stores::new(alloc, Hashing::fixed());
+    let mut stores = Stores::new(alloc, same_hashing()?);
     if let Some(options) = kept {
         let template = accepted(alloc, options)?;
         stores.templates.put(&domain(1), 300, template)?;
     }
-    let mut staged = Staged::new(alloc, Hashing::fixed());
+    let mut staged = Staged::new(alloc, same_hashing()?);
     for change in changes {
         stage(&mut staged, alloc, *change)?;
     }
@@ -548,7 +549,7 @@ fn a_change_elsewhere_is_none_here(rt: HostRuntime) -> Result<(), Fail> {
 
 #[test]
 fn a_rate_is_one_of_its_domain_and_sampler(rt: HostRuntime) -> Result<(), Fail> {
-    let mut stores = Stores::new(rt.alloc(), Hashing::fixed());
+    let mut stores = Stores::new(rt.alloc(), same_hashing()?);
     let store = &mut stores.options;
     store.learn(&domain(1), Some(7), 100)?;
     store.learn(&domain(1), Some(0), 200)?;
@@ -566,7 +567,7 @@ fn a_rate_is_one_of_its_domain_and_sampler(rt: HostRuntime) -> Result<(), Fail> 
 
 #[test]
 fn a_datagram_that_changes_nothing_has_nothing_staged(rt: HostRuntime) -> Result<(), Fail> {
-    let mut staged = Staged::new(rt.alloc(), Hashing::fixed());
+    let mut staged = Staged::new(rt.alloc(), same_hashing()?);
     assert!(rt; staged.is_empty());
     staged.learn(&domain(1), None, 200)?;
     assert!(rt; !staged.is_empty());
@@ -581,11 +582,11 @@ fn rate_left_by(
     kept: Option<u32>,
     lessons: &[(u32, Option<u64>, u32)],
 ) -> Result<Option<u32>, Fail> {
-    let mut stores = Stores::new(alloc, Hashing::fixed());
+    let mut stores = Stores::new(alloc, same_hashing()?);
     if let Some(rate) = kept {
         stores.options.learn(&domain(1), sampler, rate)?;
     }
-    let mut staged = Staged::new(alloc, Hashing::fixed());
+    let mut staged = Staged::new(alloc, same_hashing()?);
     for (number, from, rate) in lessons {
         staged.learn(&domain(*number), *from, *rate)?;
     }
@@ -622,8 +623,8 @@ fn staged_rates_wait_for_the_commit(rt: HostRuntime) -> Result<(), Fail> {
 
 #[test]
 fn a_commit_has_templates_and_rates(rt: HostRuntime) -> Result<(), Fail> {
-    let mut stores = Stores::new(rt.alloc(), Hashing::fixed());
-    let mut staged = Staged::new(rt.alloc(), Hashing::fixed());
+    let mut stores = Stores::new(rt.alloc(), same_hashing()?);
+    let mut staged = Staged::new(rt.alloc(), same_hashing()?);
     stage(&mut staged, rt.alloc(), Given::Put(1, 300, OTHERS))?;
     staged.learn(&domain(1), None, 200)?;
     staged.commit(&mut stores)?;

@@ -434,10 +434,5 @@ fn hashes_depend_on_keys(rt: HostRuntime) -> Result<(), Fail> {
     let others = Hashing::new(&rt).ok().ok_or("no keys")?;
     assert_eq!(rt; some.hash_one(7u64), some.hash_one(7u64));
     assert!(rt; some.hash_one(7u64) != others.hash_one(7u64));
-    assert_eq!(rt;
-        Hashing::fixed().hash_one(7u64),
-        Hashing::fixed().hash_one(7u64)
-    );
-    assert!(rt; Hashing::fixed().hash_one(7u64) != some.hash_one(7u64));
     Ok(())
 }
