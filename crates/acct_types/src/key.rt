@@ -9,13 +9,16 @@ use crate::packed::{
 };
 use crate::{Addr, Cell, CellRef, NoMemory};
 use smallvec::SmallVec;
-use std::alloc::Global;
+use std::alloc::{AllocError, Global};
 use std::cmp::Ordering;
 use std::hash::{Hash, Hasher};
 use std::marker::Model;
 
 /// So many octets of a key need no allocation.
 const ROOM: usize = 48;
+
+/// So many octets are few: those of a number below 2^32, or of an IPv4 address, with what they begin with.
+const FEW: usize = 5;
 
 /// What records are counted apart by, which contracts see as the list of its cells. Words have only characters from 33 to
 /// 126, without comma, quote and backslash. Keys order by their cells, from the first to the last.
@@ -34,6 +37,22 @@ impl Model for Key {
     ghost view = { λ key. cells_in key.octets.items };
 
     ghost invariant = { λ key. IsPacked key.octets.items };
+}
+
+// Adds octets at the end. Few are there sooner one by one than by a copy.
+#[inline]
+fn add_octets(held: &mut SmallVec<u8, ROOM>, octets: &[u8]) -> Result<(), AllocError>
+    ensures ok { OnOk result (held.new.items ≡ held.old.items ++ octets.now) }
+    ensures err { OnErr result (held.new ≡ held.old) }
+{
+    if octets.len() > FEW {
+        return held.extend_from_slice(octets);
+    }
+    held.reserve(octets.len())?;
+    for octet in octets {
+        held.push_reserved(*octet);
+    }
+    Ok(())
 }
 
 impl Key {
@@ -128,12 +147,13 @@ impl Key {
     }
 
     // Appends packed cells.
+    #[inline]
     fn append(&mut self, octets: &[u8]) -> Result<(), NoMemory>
         requires { IsPacked octets.now }
         ensures ok { OnOk result (self.new ≡ self.old ++ cells_in octets.now) }
         ensures err { OnErr result (self.new ≡ self.old) }
     {
-        self.octets.extend_from_slice(octets)?;
+        add_octets(&mut self.octets, octets)?;
         Ok(())
     }
 
