@@ -34,6 +34,9 @@ fn window_start(plugin: &PluginConfig, moment: u64) -> u64
 fn tags_in(job: &Job, flow: &FlowRecord) -> Tags
     ensures { (datagram : ℕ) → result ≡ tags_in job.now unrouted datagram flow.now }
 {
+    if job.tags.is_empty() {
+        return Tags::none();
+    }
     job.tags.tag(&facts(flow, job.as_from(), None, None))
 }
 

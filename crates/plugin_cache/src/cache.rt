@@ -26,15 +26,22 @@ impl Model for Cache {
     ghost invariant = { λ cache. IsWithin cache.limit cache.refresh cache.sums };
 }
 
-// The number of the window of a moment in milliseconds, where windows have so many seconds.
-fn window_of(refresh: Option<u32>, moment: u64) -> u64
+// The number of the window of a moment in milliseconds, where windows have so many seconds. Most moments lie in the window of the moment
+// before, and it takes no division to see that.
+fn window_of(refresh: Option<u32>, last: u64, moment: u64) -> u64
     requires { IfSome refresh (λ seconds. 0 < seconds) }
     ensures { result ≡ window_of refresh moment }
 {
-    match refresh {
-        Some(seconds) => moment / (1000 * u64::from(seconds)),
-        None => 0,
+    let Some(seconds) = refresh else {
+        return 0;
+    };
+    let length = 1000 * u64::from(seconds);
+    if let Some(start) = last.checked_mul(length) {
+        if start <= moment && moment - start < length {
+            return last;
+        }
     }
+    moment / length
 }
 
 impl Cache {
@@ -101,7 +108,7 @@ impl Cache {
             counts,
             ..
         } = item;
-        let window = window_of(self.refresh, moment);
+        let window = window_of(self.refresh, self.window, moment);
         if self.completes(window, &key) {
             let rows = self.sums.start_over(self.alloc, key, counts)?;
             let purge = Purge {

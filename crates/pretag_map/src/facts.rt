@@ -1,3 +1,6 @@
+ghost use Rattle.std.specs.Prelude.{◌≡◌};
+ghost use Rattle.pretag_map.specs.TagRules.{no_tags};
+
 use acct_types::Addr;
 
 /// What the conditions of a rule are asked of. A number that the record lacks is 0, and an address 0.0.0.0.
@@ -19,4 +22,17 @@ pub struct Tags {
     pub tag: u64,
     pub tag2: u64,
     pub label: Option<u32>,
+}
+
+impl Tags {
+    /// What a record is tagged with where no rule holds of it.
+    pub fn none() -> Tags
+        ensures { result ≡ no_tags }
+    {
+        Tags {
+            tag: 0,
+            tag2: 0,
+            label: None,
+        }
+    }
 }

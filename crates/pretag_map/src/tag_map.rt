@@ -1,10 +1,11 @@
 //! Maps that tag records.
 
-ghost use Rattle.std.specs.Prelude.{◌≡◌, ◌+◌, ◌<◌, ◌≤◌, ◌^◌, [], true, IfOk, IfSome, length, map, option_map, position};
+ghost use Rattle.std.specs.Prelude.{◌≡◌, ◌==◌, ◌+◌, ◌<◌, ◌≤◌, ◌^◌, [], true, IfOk, IfSome, length, map, option_map, position};
 ghost use Rattle.pretag_map.specs.Labels.{is_label};
 ghost use Rattle.pretag_map.specs.Rules.{RulesAre};
-ghost use Rattle.pretag_map.specs.TagRules.{gives, has_action, holds, label_at, tag_map_of, tag_rule, tags_of};
+ghost use Rattle.pretag_map.specs.TagRules.{gives, has_action, holds, label_at, no_tags, tag_map_of, tag_rule, tags_of};
 ghost use Rattle.pretag_map.specs.Views.{member_view, network_view};
+ghost use Rattle.pretag_map.specs.declared.facts.TagFacts.{TagFacts};
 
 use crate::condition::{covers_if, equals_if};
 use crate::fault::{MapCause, MapFault};
@@ -186,17 +187,21 @@ impl TagMap {
         }
     }
 
+    /// Whether there is no rule, so that no record needs to be looked at.
+    pub fn is_empty(&self) -> bool
+        ensures exact { result ≡ (length self.now == 0) }
+        ensures untagged { result ≡ true → (facts : TagFacts) → tags_of self.now facts ≡ no_tags }
+    {
+        self.rules.is_empty()
+    }
+
     /// What the first rule gives of which all conditions hold, or 0, 0 and no label. Takes no memory.
     pub fn tag(&self, facts: &TagFacts) -> Tags
         ensures { result ≡ tags_of self.now facts.now }
     {
         match self.first(facts) {
             Some(place) => self.rules.as_slice()[place].tags(place as u32 + 1),
-            None => Tags {
-                tag: 0,
-                tag2: 0,
-                label: None,
-            },
+            None => Tags::none(),
         }
     }
 
