@@ -22,19 +22,6 @@ pub record Leads (agreed : Agreed) (start : ℕ) (octets : List ℕ) (seen : Lis
   pub are_seen : (type : ℕ) → type < 256 → slice_index_or seen type false ≡ is_among type before
   pub leads : attributes_fault agreed before place (pieces attribute_size rest) ≡ attributes_fault agreed [] start (pieces attribute_size octets)
 
-pub value_end : (type : ℕ) (octets : List ℕ) → true ≡ (length octets == 0) → value_in type (pieces attribute_size octets) ≡ None
-value_end type octets h = rw (pieces_end attribute_size octets h) refl
-
-pub value_found : (type n : ℕ) (octets attribute : List ℕ) (all : Option (List ℕ)) → false ≡ (length octets == 0) → n ≡ attribute_size octets → attribute ≡ take n octets
-    → (attribute_type attribute == type) ≡ true → all ≡ value_in type (pieces attribute_size octets) → all ≡ Some (value_of attribute)
-value_found type n octets attribute all h is front same kept =
-    rw (pieces_next attribute_size n octets attribute (drop n octets) has_size h is front refl, same) at kept
-
-pub value_next : (type n : ℕ) (octets attribute rest : List ℕ) (all : Option (List ℕ)) → false ≡ (length octets == 0) → n ≡ attribute_size octets → attribute ≡ take n octets → rest ≡ drop n octets
-    → (attribute_type attribute == type) ≡ false → all ≡ value_in type (pieces attribute_size octets) → all ≡ value_in type (pieces attribute_size rest)
-value_next type n octets attribute rest all h is front behind other kept =
-    rw (pieces_next attribute_size n octets attribute rest has_size h is front behind, other) at kept
-
 -- ---- attributes without a fault have their forms
 
 or_none : (place : ℕ) (first : Option ℕ) (others : Option BgpFault) → or_else place first others ≡ None → (first ≡ None) × (others ≡ None)

@@ -7,5 +7,7 @@ pub mod PieceLemmas
 pub mod PrefixLemmas
 pub mod SegmentLemmas
 pub mod SpellingLemmas
+pub mod UpdateLemmas
+pub mod ValueLemmas
 pub mod WriteLemmas
 pub mod WrittenLemmas

@@ -74,7 +74,7 @@ all_first test size n octets piece rest some h is front behind all =
 
 -- ---- the last that says something
 
-or_assoc : {A : Type 0} (a b c : Option A) → option_or a (option_or b c) ≡ option_or (option_or a b) c
+pub or_assoc : {A : Type 0} (a b c : Option A) → option_or a (option_or b c) ≡ option_or (option_or a b) c
 or_assoc None b c = refl
 or_assoc (Some a) b c = refl
 

@@ -1,9 +1,11 @@
 -- Paths, one segment and one number after another.
-use Rattle.std.proofs.Common.{◌≡◌, ◌≤◌, ◌<◌, ◌+◌, ◌-◌, ◌*◌, ◌∷◌, ◌++◌, [], ℕ, suc, false, true, List, length, take, drop, length-drop, refl, arith}
+use Rattle.std.proofs.Common.{◌≡◌, ◌≤◌, ◌<◌, ◌+◌, ◌-◌, ◌*◌, ◌∙◌, ◌∷◌, ◌++◌, [], ℕ, zero, suc, false, true, List, length, take, drop, length-drop, refl, sym, arith}
 use Rattle.std.proofs.Math.Nat.{mul-suc}
+use Rattle.std.proofs.lemmas.List.{length-map}
 use Rattle.std.specs.Prelude.{◌==◌, Bool}
 use Rattle.acct_types.specs.Numbers.{number_at}
-use Rattle.bgp_msg.specs.Paths.{hops_of, numbers_of, path_of, segment_size}
+use Rattle.acct_types.specs.declared.route.Hop.TheVariants.{One}
+use Rattle.bgp_msg.specs.Paths.{hops_of, number_width, numbers_of, path_of, segment_count, segment_numbers, segment_size, segment_type}
 use Rattle.bgp_msg.proofs.PieceLemmas.{HasSize, pieces_end, pieces_next}
 
 pub has_size : (wide : Bool) → HasSize (segment_size wide)
@@ -32,3 +34,13 @@ room_next width count i octets h room =
     let sum : width * suc (count - (i + 1)) ≡ width * (count - (i + 1)) + width = mul-suc width (count - (i + 1)) in
     let dropped = length-drop width octets in
     (omega (arith, more, sum), omega (arith, more, sum, dropped))
+
+numbers_count : (width count : ℕ) (octets : List ℕ) → length (numbers_of width count octets) ≡ count
+numbers_count width zero octets = refl
+numbers_count width (suc count) octets = let rest = numbers_count width count (drop width octets) in omega (arith, rest)
+
+-- a sequence has a hop for each number
+pub sequence_hops : (wide : Bool) (segment : List ℕ) → segment_type segment ≡ 2 → segment_count segment ≡ length (hops_of wide segment)
+unfolding hops_of
+sequence_hops wide segment is =
+    rw is (sym (length-map (segment_numbers wide segment) One ∙ numbers_count (number_width wide) (segment_count segment) (drop 2 segment)))

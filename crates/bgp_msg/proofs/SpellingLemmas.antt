@@ -14,7 +14,7 @@ use Rattle.acct_types.specs.declared.route.Hop.TheVariants.{One, Set}
 use Rattle.bgp_msg.specs.Paths.{hops_of, is_segment, number_width, numbers_of, replaced, segment_numbers, segment_size}
 use Rattle.bgp_msg.specs.Pieces.{pieces}
 use Rattle.bgp_msg.specs.Prefixes.{address_of, bad_prefix, filled, is_bad, named, prefix_size, prefixes_in}
-use Rattle.bgp_msg.specs.Spellings.{Each, FitsPrefix, FitsSegment, Names, ReadsAddress, ReadsPath, ReadsPrefixes, ReplacesTheLast, Segment, Spelled, hops_in, name_of, path_spelling, prefix_spelling, segment_spelling}
+use Rattle.bgp_msg.specs.Spellings.{Each, FitsPrefix, FitsSegment, ReadsAddress, ReadsPath, ReadsPrefixes, ReplacesTheLast, Segment, Spelled, hops_in, name_of, path_spelling, prefix_spelling, segment_spelling}
 use Rattle.bgp_msg.specs.declared.families.Family.{Family}
 use Rattle.bgp_msg.specs.declared.families.Family.TheVariants.{V4, V6}
 use Rattle.bgp_msg.proofs.PieceLemmas.{HasSize, pieces_next}

@@ -6,10 +6,12 @@ pub mod Items
 pub mod Laws
 pub mod Messages
 pub mod Opens
+pub mod Parts
 pub mod Paths
 pub mod Pieces
 pub mod Prefixes
 pub mod Routes
 pub mod Spellings
 pub mod Updates
+pub mod Values
 pub mod Written

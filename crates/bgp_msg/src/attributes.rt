@@ -1,12 +1,15 @@
 //! Path attributes (RFC 4271, 4.3 and 6.3).
 
-ghost use Rattle.std.specs.Prelude.{◌≡◌, ◌≤◌, ◌+◌, ℕ, List, [], length, IfSome, MatchOption, Some, None};
-ghost use Rattle.bgp_msg.specs.Attributes.{attribute_fault, attribute_size, attribute_type, attributes_fault, form_fault, head_size, is_among, rule_fault, rule_of, value_in, value_of};
+ghost use Rattle.std.specs.Prelude.{◌≡◌, ◌≤◌, ◌+◌, ℕ, List, [], length, IfOk, IfErr, Some, None};
+ghost use Rattle.bgp_msg.specs.Attributes.{attribute_fault, attribute_size, attribute_type, attributes_fault, form_fault, head_size, is_among, rule_fault, rule_of, value_of};
+ghost use Rattle.bgp_msg.specs.Frames.{fault};
 ghost use Rattle.bgp_msg.specs.Pieces.{pieces};
+ghost use Rattle.bgp_msg.specs.Values.{HaveForms, Keeps};
 
 use crate::families::{is_reach, is_unreach};
 use crate::paths::is_path;
 use crate::pieces::{behind, front};
+use crate::values::Values;
 use crate::{Agreed, BgpFault};
 use acct_types::numbers::u16_at;
 
@@ -107,9 +110,9 @@ fn attribute_size(octets: &[u8]) -> usize
     }
 }
 
-// The value of an attribute, as far as it is there.
+/// The value of an attribute, as far as it is there.
 #[tactic(auto, unfolding(crate::specs::Attributes::value_of))]
-fn value_of(attribute: &[u8]) -> &[u8]
+pub(crate) fn value_of(attribute: &[u8]) -> &[u8]
     requires { 1 ≤ length attribute.now }
     ensures value { result.now ≡ value_of attribute.now }
     ensures length { length result.now ≤ length attribute.now }
@@ -118,8 +121,8 @@ fn value_of(attribute: &[u8]) -> &[u8]
     behind(attribute, head)
 }
 
-// The type of an attribute, 0 where it isn't there.
-fn type_of(attribute: &[u8]) -> u8
+/// The type of an attribute, 0 where it isn't there.
+pub(crate) fn type_of(attribute: &[u8]) -> u8
     ensures { result ≡ attribute_type attribute.now }
 {
     if attribute.len() < 2 { 0 } else { attribute[1] }
@@ -171,14 +174,33 @@ fn attribute_fault(agreed: Agreed, again: bool, attribute: &[u8]) -> Option<u8>
     rule_fault(agreed, attribute)
 }
 
-/// What is wrong first with attributes, of which the first stands at this place: subcode 1 of code 3 where one is cut or its type
-/// came before, 2 where its type isn't known and it isn't optional, 4 where its flags aren't those of its type, and what its
-/// form says. An attribute is judged whole before the next one.
-pub(crate) fn attributes_fault(agreed: Agreed, start: u32, octets: &[u8]) -> Option<BgpFault>
+/// A fault of an UPDATE (RFC 4271, 6.3).
+pub(crate) fn fault(subcode: u8, place: u32) -> BgpFault
+    ensures { result ≡ fault 3 subcode place }
+{
+    BgpFault {
+        code: 3,
+        subcode,
+        place,
+    }
+}
+
+/// The values of attributes, of which the first stands at this place, in one pass; or what is wrong with them first: subcode 1 of
+/// code 3 where one is cut or its type came before, 2 where its type isn't known and it isn't optional, 4 where its flags aren't those of
+/// its type, and what its form says. An attribute is judged whole before the next one.
+pub(crate) fn read_attributes(
+    agreed: Agreed,
+    start: u32,
+    octets: &[u8],
+) -> Result<Values<'_>, BgpFault>
     requires { start + length octets.now ≤ 4096 }
-    ensures { result ≡ attributes_fault agreed [] start (pieces attribute_size octets.now) }
+    ensures good { IfOk result (λ _. attributes_fault agreed [] start (pieces attribute_size octets.now) ≡ None) }
+    ensures values { IfOk result (λ values. Keeps values (pieces attribute_size octets.now)) }
+    ensures forms { IfOk result (λ values. HaveForms agreed values) }
+    ensures fault { IfErr result (λ fault. attributes_fault agreed [] start (pieces attribute_size octets.now) ≡ Some fault) }
 {
     let mut seen = [false; 256];
+    let mut values = Values::none();
     let mut place = start;
     let mut rest = octets;
     while !rest.is_empty() {
@@ -186,33 +208,12 @@ pub(crate) fn attributes_fault(agreed: Agreed, start: u32, octets: &[u8]) -> Opt
         let attribute = front(rest, size);
         let kind = usize::from(type_of(attribute));
         if let Some(subcode) = attribute_fault(agreed, seen[kind], attribute) {
-            return Some(BgpFault {
-                code: 3,
-                subcode,
-                place,
-            });
+            return Err(fault(subcode, place));
         }
         seen[kind] = true;
+        values.keep(attribute);
         place += attribute.len() as u32;
         rest = behind(rest, size);
     }
-    None
-}
-
-/// The value of the attribute of a type.
-pub(crate) fn value_in(kind: u8, octets: &[u8]) -> Option<&[u8]>
-    ensures value { MatchOption result (value_in kind (pieces attribute_size octets.now) ≡ None)
-        (λ value. value_in kind (pieces attribute_size octets.now) ≡ Some value.now) }
-    ensures length { IfSome result (λ value. length value.now ≤ length octets.now) }
-{
-    let mut rest = octets;
-    while !rest.is_empty() {
-        let size = attribute_size(rest);
-        let attribute = front(rest, size);
-        if type_of(attribute) == kind {
-            return Some(value_of(attribute));
-        }
-        rest = behind(rest, size);
-    }
-    None
+    Ok(values)
 }

@@ -8,7 +8,7 @@ ghost use Rattle.bgp_msg.specs.Routes.{routes};
 use crate::pieces::behind;
 use crate::prefixes::{bad_prefix, read_prefixes, read_routes};
 use acct_types::numbers::{after, u16_at, u32_at, u128_at};
-use acct_types::{Addr, Announce, List, Nlri, NoMemory};
+use acct_types::{Addr, Announce, Nlri, NoMemory};
 
 /// The address families whose unicast routes are kept.
 #[derive(Clone, Copy)]
@@ -107,9 +107,9 @@ fn reach_hop(value: &[u8]) -> Addr
 
 /// Appends the routes that MP_REACH_NLRI announces.
 #[tactic(auto, unfolding(crate::specs::Families::reaches, crate::specs::Families::is_reach, crate::specs::Families::reached))]
-pub(crate) fn read_reached(value: &[u8], announced: &mut List<Announce>) -> Result<(), NoMemory>
+pub(crate) fn read_reached(value: &[u8], announced: &mut Vec<Announce>) -> Result<(), NoMemory>
     requires { is_reach value.now ≡ true }
-    ensures { OnOk result (map route_view announced.new ≡ map route_view announced.old ++ routes (reach_hop value.now) (reached value.now)) }
+    ensures { OnOk result (map route_view announced.new.items ≡ map route_view announced.old.items ++ routes (reach_hop value.now) (reached value.now)) }
 {
     let Some(family) = family_of(value) else {
         return Ok(());
@@ -120,9 +120,9 @@ pub(crate) fn read_reached(value: &[u8], announced: &mut List<Announce>) -> Resu
 
 /// Appends the prefixes that MP_UNREACH_NLRI withdraws.
 #[tactic(auto, unfolding(crate::specs::Families::is_unreach, crate::specs::Families::unreached))]
-pub(crate) fn read_unreached(value: &[u8], withdrawn: &mut List<Nlri>) -> Result<(), NoMemory>
+pub(crate) fn read_unreached(value: &[u8], withdrawn: &mut Vec<Nlri>) -> Result<(), NoMemory>
     requires { is_unreach value.now ≡ true }
-    ensures { OnOk result (map nlri_view withdrawn.new ≡ map nlri_view withdrawn.old ++ unreached value.now) }
+    ensures { OnOk result (map nlri_view withdrawn.new.items ≡ map nlri_view withdrawn.old.items ++ unreached value.now) }
 {
     let Some(family) = family_of(value) else {
         return Ok(());

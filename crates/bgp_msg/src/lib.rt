@@ -15,6 +15,7 @@ mod pieces;
 mod prefixes;
 mod read;
 mod update;
+mod values;
 mod write;
 
 pub use bmp_fault::BmpFault;

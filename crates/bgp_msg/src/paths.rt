@@ -48,9 +48,9 @@ pub(crate) fn read_numbers(
 }
 
 // Appends a hop for each of so many numbers.
-fn push_ones(hops: &mut List<Hop>, wide: bool, count: usize, octets: &[u8]) -> Result<(), NoMemory>
+fn push_ones(hops: &mut Vec<Hop>, wide: bool, count: usize, octets: &[u8]) -> Result<(), NoMemory>
     requires { number_width wide * count ≤ length octets.now }
-    ensures { OnOk result (hops.new ≡ hops.old ++ map One (numbers_of (number_width wide) count octets.now)) }
+    ensures { OnOk result (hops.new.items ≡ hops.old.items ++ map One (numbers_of (number_width wide) count octets.now)) }
 {
     let mut rest = octets;
     for _ in 0..count {
@@ -99,33 +99,57 @@ pub(crate) fn is_path(wide: bool, octets: &[u8]) -> bool
 
 // Appends the hops of a segment.
 #[tactic(auto, unfolding(crate::specs::Paths::hops_of, crate::specs::Paths::is_segment, crate::specs::Paths::segment_size))]
-fn push_hops(
-    alloc: Global,
-    hops: &mut List<Hop>,
-    wide: bool,
-    segment: &[u8],
-) -> Result<(), NoMemory>
+fn push_hops(alloc: Global, hops: &mut Vec<Hop>, wide: bool, segment: &[u8]) -> Result<(), NoMemory>
     requires { is_segment wide segment.now ≡ true }
-    ensures { OnOk result (hops.new ≡ hops.old ++ hops_of wide segment.now) }
+    ensures { OnOk result (hops.new.items ≡ hops.old.items ++ hops_of wide segment.now) }
 {
     let count = usize::from(segment[1]);
     let numbers = after(segment, 2);
     match segment[0] {
-        1 => hops.push(Hop::Set(read_numbers(alloc, wide, count, numbers)?)),
+        1 => Ok(hops.push(Hop::Set(read_numbers(alloc, wide, count, numbers)?))?),
         2 => push_ones(hops, wide, count, numbers),
         _ => Ok(()),
     }
 }
 
+// How many hops a segment has.
+#[tactic(auto, unfolding(crate::specs::Paths::hops_of, crate::specs::Paths::is_segment, crate::specs::Paths::segment_size))]
+fn segment_hops(wide: bool, segment: &[u8]) -> usize
+    requires { is_segment wide segment.now ≡ true }
+    ensures count { result ≡ length (hops_of wide segment.now) }
+    ensures few { result ≤ length segment.now }
+{
+    match segment[0] {
+        1 => 1,
+        2 => usize::from(segment[1]),
+        _ => 0,
+    }
+}
+
+/// How many hops a path has.
+pub(crate) fn hop_count(wide: bool, octets: &[u8]) -> usize
+    requires { is_path wide octets.now ≡ true }
+    ensures { result ≡ length (path_of wide octets.now) }
+{
+    let mut count = 0;
+    let mut rest = octets;
+    while !rest.is_empty() {
+        let size = segment_size(wide, rest);
+        count += segment_hops(wide, front(rest, size));
+        rest = behind(rest, size);
+    }
+    count
+}
+
 /// Appends the hops of a path. Those of confederations are left out.
 pub(crate) fn append_path(
     alloc: Global,
-    hops: &mut List<Hop>,
+    hops: &mut Vec<Hop>,
     wide: bool,
     octets: &[u8],
 ) -> Result<(), NoMemory>
     requires { is_path wide octets.now ≡ true }
-    ensures { OnOk result (hops.new ≡ hops.old ++ path_of wide octets.now) }
+    ensures { OnOk result (hops.new.items ≡ hops.old.items ++ path_of wide octets.now) }
 {
     let mut rest = octets;
     while !rest.is_empty() {
@@ -141,7 +165,7 @@ pub(crate) fn read_path(alloc: Global, wide: bool, octets: &[u8]) -> Result<List
     requires { is_path wide octets.now ≡ true }
     ensures { IfOk result (λ hops. hops ≡ path_of wide octets.now) }
 {
-    let mut hops = List::new(alloc);
+    let mut hops = Vec::with_capacity(alloc, hop_count(wide, octets))?;
     append_path(alloc, &mut hops, wide, octets)?;
-    Ok(hops)
+    Ok(List::from_vec(hops))
 }

@@ -2,13 +2,14 @@
 
 ghost use Rattle.std.specs.Prelude.{◌≡◌, ◌≤◌, ◌<◌, ◌+◌, ◌++◌, length, map, OnOk, OnErr, IfSome, None, false};
 ghost use Rattle.acct_types.specs.Updates.{nlri_view, route_view};
+ghost use Rattle.bgp_msg.specs.Pieces.{pieces};
 ghost use Rattle.bgp_msg.specs.Prefixes.{address_of, bad_prefix, bits_of, filled, is_bad, named, prefix_size, prefixes_in, width};
 ghost use Rattle.bgp_msg.specs.Routes.{routes};
 
 use crate::families::Family;
 use crate::pieces::{behind, front};
 use acct_types::numbers::{after, u32_at, u128_at};
-use acct_types::{Addr, Announce, List, Nlri, NoMemory, Prefix};
+use acct_types::{Addr, Announce, Nlri, NoMemory, Prefix};
 
 fn width(family: Family) -> u8
     ensures { result ≡ width family }
@@ -87,15 +88,29 @@ fn read_prefix(family: Family, prefix: &[u8]) -> Nlri
     Nlri { prefix, path_id: 0 }
 }
 
-/// Appends the prefixes of a list of which none is bad.
+// How many prefixes there are.
+fn prefix_count(octets: &[u8]) -> usize
+    ensures { result ≡ length (pieces prefix_size octets.now) }
+{
+    let mut count = 0;
+    let mut rest = octets;
+    while !rest.is_empty() {
+        count += 1;
+        rest = behind(rest, prefix_size(rest));
+    }
+    count
+}
+
+/// Appends the prefixes of a list of which none is bad, with room made for all of them at once.
 pub(crate) fn read_prefixes(
     family: Family,
     octets: &[u8],
-    names: &mut List<Nlri>,
+    names: &mut Vec<Nlri>,
 ) -> Result<(), NoMemory>
     requires { bad_prefix family 0 octets.now ≡ None }
-    ensures { OnOk result (map nlri_view names.new ≡ map nlri_view names.old ++ prefixes_in family octets.now) }
+    ensures { OnOk result (map nlri_view names.new.items ≡ map nlri_view names.old.items ++ prefixes_in family octets.now) }
 {
+    names.reserve(prefix_count(octets))?;
     let mut rest = octets;
     while !rest.is_empty() {
         let size = prefix_size(rest);
@@ -105,16 +120,17 @@ pub(crate) fn read_prefixes(
     Ok(())
 }
 
-/// Appends a route to each prefix of a list of which none is bad, by this next hop.
+/// Appends a route to each prefix of a list of which none is bad, by this next hop, with room made for all of them at once.
 pub(crate) fn read_routes(
     family: Family,
     next_hop: Addr,
     octets: &[u8],
-    announced: &mut List<Announce>,
+    announced: &mut Vec<Announce>,
 ) -> Result<(), NoMemory>
     requires { bad_prefix family 0 octets.now ≡ None }
-    ensures { OnOk result (map route_view announced.new ≡ map route_view announced.old ++ routes next_hop (prefixes_in family octets.now)) }
+    ensures { OnOk result (map route_view announced.new.items ≡ map route_view announced.old.items ++ routes next_hop (prefixes_in family octets.now)) }
 {
+    announced.reserve(prefix_count(octets))?;
     let mut rest = octets;
     while !rest.is_empty() {
         let size = prefix_size(rest);

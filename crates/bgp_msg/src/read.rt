@@ -6,7 +6,7 @@ ghost use Rattle.bgp_msg.specs.Messages.{Gives};
 
 use crate::header::{NOTIFICATION, OPEN, UPDATE};
 use crate::open::{open_fault, read_open};
-use crate::update::{read_update, update_fault};
+use crate::update::{parts_of, read_update};
 use crate::{Agreed, BgpMessage, BgpRefusal};
 use std::alloc::Global;
 
@@ -25,10 +25,11 @@ pub fn read_message(alloc: Global, octets: &[u8], agreed: &Agreed) -> Result<Bgp
             Ok(BgpMessage::Hello(read_open(octets)))
         }
         UPDATE => {
-            if let Some(fault) = update_fault(*agreed, octets) {
-                return Err(BgpRefusal::Fault(fault));
-            }
-            Ok(BgpMessage::Update(read_update(alloc, *agreed, octets)?))
+            let parts = match parts_of(*agreed, octets) {
+                Ok(parts) => parts,
+                Err(fault) => return Err(BgpRefusal::Fault(fault)),
+            };
+            Ok(BgpMessage::Update(read_update(alloc, *agreed, &parts)?))
         }
         NOTIFICATION => Ok(BgpMessage::Notification {
             code: octets[19],

@@ -1,70 +1,31 @@
 //! UPDATE (RFC 4271, 4.3 and 6.3, and RFC 4760).
 
-ghost use Rattle.std.specs.Prelude.{◌≡◌, ◌≤◌, ◌+◌, ◌++◌, ◌==◌, is_some, length, map, not, IfOk, OnOk, None};
+ghost use Rattle.std.specs.Prelude.{◌≡◌, ◌≤◌, ◌+◌, ◌++◌, ◌==◌, ℕ, List, length, map, not, option_copied, IfErr, IfOk, IfSome, OnOk, None, Some, true};
 ghost use Rattle.acct_types.specs.Updates.{nlri_view, route_view, update_view};
-ghost use Rattle.bgp_msg.specs.Attributes.{AreFormed, attribute_size, value_in};
-ghost use Rattle.bgp_msg.specs.Pieces.{pieces};
-ghost use Rattle.bgp_msg.specs.Frames.{fault};
 ghost use Rattle.bgp_msg.specs.Prefixes.{bad_prefix, prefixes_in};
-ghost use Rattle.bgp_msg.specs.Updates.{IsNumber, announced_octets, announced_place, attribute_octets, attributes_place, attrs_of, communities_in, lacks, lengths_fault, merged, names_unreached, number_in, origin_in, parts_fault, path_in, prefix_fault, reached_by, routes_behind, routes_reached, said, update_fault, whole_path, withdrawn_octets};
+ghost use Rattle.bgp_msg.specs.Families.{is_reach, is_unreach};
+ghost use Rattle.bgp_msg.specs.Paths.{is_path};
+ghost use Rattle.bgp_msg.specs.Updates.{announced_octets, announced_place, attribute_octets, attributes_of, attributes_place, attrs_of, communities_in, lacks, lengths_fault, merged, names_unreached, number_in, origin_in, path_in, prefix_fault, reached_by, routes_behind, routes_reached, said, update_fault, whole_path, withdrawn_octets};
+ghost use Rattle.bgp_msg.specs.Values.{HaveForms, Keeps};
+ghost use Rattle.bgp_msg.specs.Parts.{AreParts, CanBeRead};
 ghost use Rattle.bgp_msg.specs.declared.families.Family.TheVariants.{V4};
 
-use crate::attributes::{
-    AS_PATH, AS4_PATH, COMMUNITIES, LOCAL_PREF, MP_REACH_NLRI, MP_UNREACH_NLRI, MULTI_EXIT_DISC,
-    NEXT_HOP, ORIGIN, attributes_fault, value_in,
-};
+use crate::attributes::{fault, read_attributes};
 use crate::families::{Family, reaches_some, read_reached, read_unreached};
-use crate::paths::{append_path, is_path, read_numbers, read_path};
+use crate::paths::{append_path, hop_count, is_path, read_numbers, read_path};
 use crate::prefixes::{bad_prefix, read_prefixes, read_routes};
+use crate::values::Values;
 use crate::{Agreed, BgpFault};
 use acct_types::numbers::{after, u16_at, u32_at};
 use acct_types::{Addr, Announce, Hop, List, Nlri, NoMemory, RouteAttrs, Update};
 use std::alloc::Global;
 
-fn fault(subcode: u8, place: u32) -> BgpFault
-    ensures { result ≡ fault 3 subcode place }
-{
-    BgpFault {
-        code: 3,
-        subcode,
-        place,
-    }
-}
-
-fn prefix_fault(place: Option<u32>) -> Option<BgpFault>
-    ensures { result ≡ prefix_fault place }
-{
-    match place {
-        Some(place) => Some(fault(10, place)),
-        None => None,
-    }
-}
-
-// Whether MP_REACH_NLRI announces a prefix.
-fn has_reached(agreed: Agreed, attributes: &[u8]) -> bool
-    requires { AreFormed agreed (pieces attribute_size attributes.now) }
-    ensures { result ≡ not (length (reached_by (value_in 14 (pieces attribute_size attributes.now))) == 0) }
-{
-    match value_in(MP_REACH_NLRI, attributes) {
-        Some(value) => reaches_some(value),
-        None => false,
-    }
-}
-
-fn has(kind: u8, attributes: &[u8]) -> bool
-    ensures { result ≡ is_some (value_in kind (pieces attribute_size attributes.now)) }
-{
-    value_in(kind, attributes).is_some()
-}
-
-#[tactic(auto, unfolding(crate::specs::Updates::lacks))]
-fn lacks(agreed: Agreed, attributes: &[u8], behind: bool) -> bool
-    requires { AreFormed agreed (pieces attribute_size attributes.now) }
-    ensures { result ≡ lacks (pieces attribute_size attributes.now) behind }
-{
-    (behind || has_reached(agreed, attributes))
-        && (!has(ORIGIN, attributes) || !has(AS_PATH, attributes))
-        || behind && !has(NEXT_HOP, attributes)
+/// The parts of an UPDATE: the octets of the withdrawn prefixes, the values of its attributes, and the octets of the announced prefixes.
+#[derive(Clone, Copy)]
+pub(crate) struct Parts<'a> {
+    withdrawn: &'a [u8],
+    values: Values<'a>,
+    announced: &'a [u8],
 }
 
 #[tactic(auto, unfolding(crate::specs::Updates::lengths_fault))]
@@ -128,170 +89,198 @@ fn announced_place(octets: &[u8]) -> usize
     place + usize::from(u16_at(octets, place - 2))
 }
 
-// What is wrong first with the parts.
-#[tactic(auto, unfolding(crate::specs::Updates::parts_fault))]
-fn parts_fault(agreed: Agreed, octets: &[u8]) -> Option<BgpFault>
+// Whether a list of prefixes of IPv4, of which the first stands at this place, has none that is too long or cut.
+fn judge_prefixes(place: u32, octets: &[u8]) -> Result<(), BgpFault>
+    requires { place + length octets.now ≤ 4096 }
+    ensures good { OnOk result (prefix_fault (bad_prefix V4 place octets.now) ≡ None) }
+    ensures fault { IfErr result (λ fault. prefix_fault (bad_prefix V4 place octets.now) ≡ Some fault) }
+{
+    match bad_prefix(Family::V4, place, octets) {
+        Some(place) => Err(fault(10, place)),
+        None => Ok(()),
+    }
+}
+
+// Whether MP_REACH_NLRI announces a prefix.
+fn has_reached(mp_reach: Option<&[u8]>) -> bool
+    requires { IfSome mp_reach (λ value. is_reach value.now ≡ true) }
+    ensures { result ≡ not (length (reached_by (option_copied mp_reach.entry)) == 0) }
+{
+    match mp_reach {
+        Some(value) => reaches_some(value),
+        None => false,
+    }
+}
+
+// Whether attributes of these values lack one that the announced prefixes need.
+#[tactic(auto, unfolding(crate::specs::Updates::lacks))]
+fn lacks(values: &Values<'_>, behind: bool) -> bool
+    requires { IfSome values.now.mp_reach (λ value. is_reach value.now ≡ true) }
+    ensures { (attributes : List (List ℕ)) → Keeps values.now attributes → result ≡ lacks attributes behind }
+{
+    (behind || has_reached(values.mp_reach))
+        && (values.origin.is_none() || values.as_path.is_none())
+        || behind && values.next_hop.is_none()
+}
+
+// The parts of an UPDATE whose lengths don't pass its end, or what is wrong with them first.
+fn judge(agreed: Agreed, octets: &[u8]) -> Result<Parts<'_>, BgpFault>
     requires whole { 23 ≤ length octets.now }
     requires short { length octets.now ≤ 4096 }
-    requires good { lengths_fault octets.now ≡ None }
-    ensures { result ≡ parts_fault agreed (withdrawn_octets octets.now) (attributes_place octets.now) (attribute_octets octets.now) (announced_place octets.now) (announced_octets octets.now) }
+    requires lengths { lengths_fault octets.now ≡ None }
+    ensures good { IfOk result (λ _. update_fault agreed octets.now ≡ None) }
+    ensures parts { IfOk result (λ parts. AreParts octets.now parts) }
+    ensures readable { IfOk result (λ parts. CanBeRead agreed parts) }
+    ensures fault { IfErr result (λ fault. update_fault agreed octets.now ≡ Some fault) }
 {
-    let withdrawn = prefix_fault(bad_prefix(Family::V4, 21, withdrawn(octets)));
-    if withdrawn.is_some() {
-        return withdrawn;
-    }
-    let attributes = attributes(octets);
-    let in_attributes = attributes_fault(agreed, attributes_place(octets) as u32, attributes);
-    if in_attributes.is_some() {
-        return in_attributes;
-    }
+    let withdrawn = withdrawn(octets);
+    judge_prefixes(21, withdrawn)?;
+    let values = read_attributes(agreed, attributes_place(octets) as u32, attributes(octets))?;
     let place = announced_place(octets);
     let announced = after(octets, place);
-    let in_announced = prefix_fault(bad_prefix(Family::V4, place as u32, announced));
-    if in_announced.is_some() {
-        return in_announced;
+    judge_prefixes(place as u32, announced)?;
+    if lacks(&values, !announced.is_empty()) {
+        return Err(fault(3, 19));
     }
-    if lacks(agreed, attributes, !announced.is_empty()) {
-        return Some(fault(3, 19));
-    }
-    None
+    Ok(Parts {
+        withdrawn,
+        values,
+        announced,
+    })
 }
 
-/// What is wrong with an UPDATE, first: subcode 1 of code 3 where a length passes the end, 10 where a withdrawn prefix is too long or
-/// cut, what `attributes_fault` says, 10 for an announced prefix, and 3 where announced prefixes lack ORIGIN, AS_PATH or
+/// The parts of an UPDATE, or what is wrong with it first: subcode 1 of code 3 where a length passes the end, 10 where a withdrawn prefix is
+/// too long or cut, what `read_attributes` says, 10 for an announced prefix, and 3 where announced prefixes lack ORIGIN, AS_PATH or
 /// NEXT_HOP.
-pub(crate) fn update_fault(agreed: Agreed, octets: &[u8]) -> Option<BgpFault>
+pub(crate) fn parts_of(agreed: Agreed, octets: &[u8]) -> Result<Parts<'_>, BgpFault>
     requires whole { 23 ≤ length octets.now }
     requires short { length octets.now ≤ 4096 }
-    ensures { result ≡ update_fault agreed octets.now }
+    ensures good { IfOk result (λ _. update_fault agreed octets.now ≡ None) }
+    ensures parts { IfOk result (λ parts. AreParts octets.now parts) }
+    ensures readable { IfOk result (λ parts. CanBeRead agreed parts) }
+    ensures fault { IfErr result (λ fault. update_fault agreed octets.now ≡ Some fault) }
 {
-    let lengths = lengths_fault(octets);
-    if lengths.is_some() {
-        return lengths;
+    if let Some(fault) = lengths_fault(octets) {
+        return Err(fault);
     }
-    parts_fault(agreed, octets)
+    judge(agreed, octets)
 }
 
-fn origin_in(agreed: Agreed, attributes: &[u8]) -> u8
-    requires { AreFormed agreed (pieces attribute_size attributes.now) }
-    ensures { result ≡ origin_in (value_in 1 (pieces attribute_size attributes.now)) }
+fn origin_in(origin: Option<&[u8]>) -> u8
+    requires { IfSome origin (λ value. length value.now ≡ 1) }
+    ensures { result ≡ origin_in (option_copied origin.entry) }
 {
-    match value_in(ORIGIN, attributes) {
+    match origin {
         Some(value) => value[0],
         None => 0,
     }
 }
 
-fn number_in(agreed: Agreed, kind: u8, attributes: &[u8]) -> Option<u32>
-    requires formed { AreFormed agreed (pieces attribute_size attributes.now) }
-    requires kind { IsNumber kind }
-    ensures { result ≡ number_in (value_in kind (pieces attribute_size attributes.now)) }
+fn number_in(number: Option<&[u8]>) -> Option<u32>
+    requires { IfSome number (λ value. length value.now ≡ 4) }
+    ensures { result ≡ number_in (option_copied number.entry) }
 {
-    match value_in(kind, attributes) {
+    match number {
         Some(value) => Some(u32_at(value, 0)),
         None => None,
     }
 }
 
-fn communities_in(alloc: Global, agreed: Agreed, attributes: &[u8]) -> Result<List<u32>, NoMemory>
-    requires { AreFormed agreed (pieces attribute_size attributes.now) }
-    ensures { IfOk result (λ numbers. numbers ≡ communities_in (value_in 8 (pieces attribute_size attributes.now))) }
+fn communities_in(alloc: Global, communities: Option<&[u8]>) -> Result<List<u32>, NoMemory>
+    ensures { IfOk result (λ numbers. numbers ≡ communities_in (option_copied communities.entry)) }
 {
-    match value_in(COMMUNITIES, attributes) {
+    match communities {
         Some(value) => read_numbers(alloc, true, value.len() / 4, value),
         None => Ok(List::new(alloc)),
     }
 }
 
-fn path_in(alloc: Global, agreed: Agreed, attributes: &[u8]) -> Result<List<Hop>, NoMemory>
-    requires { AreFormed agreed (pieces attribute_size attributes.now) }
-    ensures { IfOk result (λ hops. hops ≡ path_in agreed.four_octets (value_in 2 (pieces attribute_size attributes.now))) }
+fn path_in(alloc: Global, wide: bool, as_path: Option<&[u8]>) -> Result<List<Hop>, NoMemory>
+    requires { IfSome as_path (λ value. is_path wide value.now ≡ true) }
+    ensures { IfOk result (λ hops. hops ≡ path_in wide (option_copied as_path.entry)) }
 {
-    match value_in(AS_PATH, attributes) {
-        Some(value) => read_path(alloc, agreed.four_octets, value),
+    match as_path {
+        Some(value) => read_path(alloc, wide, value),
         None => Ok(List::new(alloc)),
     }
 }
 
 // The path, with the last hops replaced by those of AS4_PATH, where that is well formed.
 #[tactic(auto, unfolding(crate::specs::Paths::replaced))]
-fn merged(alloc: Global, path: List<Hop>, attributes: &[u8]) -> Result<List<Hop>, NoMemory>
-    ensures { IfOk result (λ hops. hops ≡ merged path (value_in 17 (pieces attribute_size attributes.now))) }
+fn merged(alloc: Global, path: List<Hop>, as4_path: Option<&[u8]>) -> Result<List<Hop>, NoMemory>
+    ensures { IfOk result (λ hops. hops ≡ merged path (option_copied as4_path.entry)) }
 {
-    let Some(value) = value_in(AS4_PATH, attributes) else {
+    let Some(value) = as4_path else {
         return Ok(path);
     };
     if !is_path(true, value) {
         return Ok(path);
     }
-    let later = read_path(alloc, true, value)?.len();
-    let mut hops = path;
-    let Some(kept) = hops.len().checked_sub(later) else {
-        return Ok(hops);
+    let Some(kept) = path.len().checked_sub(hop_count(true, value)) else {
+        return Ok(path);
     };
+    let mut hops = path.into_vec();
     hops.truncate(kept);
     append_path(alloc, &mut hops, true, value)?;
-    Ok(hops)
+    Ok(List::from_vec(hops))
 }
 
-fn whole_path(alloc: Global, agreed: Agreed, attributes: &[u8]) -> Result<List<Hop>, NoMemory>
-    requires { AreFormed agreed (pieces attribute_size attributes.now) }
-    ensures { IfOk result (λ hops. hops ≡ whole_path agreed (pieces attribute_size attributes.now)) }
+fn whole_path(alloc: Global, agreed: Agreed, values: &Values<'_>) -> Result<List<Hop>, NoMemory>
+    requires { IfSome values.now.as_path (λ value. is_path agreed.four_octets value.now ≡ true) }
+    ensures { (attributes : List (List ℕ)) → Keeps values.now attributes → IfOk result (λ hops. hops ≡ whole_path agreed attributes) }
 {
-    let path = path_in(alloc, agreed, attributes)?;
+    let path = path_in(alloc, agreed.four_octets, values.as_path)?;
     if agreed.four_octets {
         return Ok(path);
     }
-    merged(alloc, path, attributes)
+    merged(alloc, path, values.as4_path)
 }
 
 #[tactic(auto, unfolding(crate::specs::Updates::attrs_of))]
-fn attrs_of(alloc: Global, agreed: Agreed, attributes: &[u8]) -> Result<RouteAttrs, NoMemory>
-    requires { AreFormed agreed (pieces attribute_size attributes.now) }
-    ensures { IfOk result (λ attrs. attrs ≡ attrs_of agreed (pieces attribute_size attributes.now)) }
+fn attrs_of(alloc: Global, agreed: Agreed, values: &Values<'_>) -> Result<RouteAttrs, NoMemory>
+    requires { HaveForms agreed values.now }
+    ensures { (attributes : List (List ℕ)) → Keeps values.now attributes → IfOk result (λ attrs. attrs ≡ attrs_of agreed attributes) }
 {
-    let path = whole_path(alloc, agreed, attributes)?;
-    let communities = communities_in(alloc, agreed, attributes)?;
+    let path = whole_path(alloc, agreed, values)?;
+    let communities = communities_in(alloc, values.communities)?;
     Ok(RouteAttrs {
-        origin: origin_in(agreed, attributes),
+        origin: origin_in(values.origin),
         path,
-        med: number_in(agreed, MULTI_EXIT_DISC, attributes),
-        local_pref: number_in(agreed, LOCAL_PREF, attributes),
+        med: number_in(values.med),
+        local_pref: number_in(values.local_pref),
         communities,
     })
 }
 
-// The prefixes that are withdrawn in these octets, and by the attributes.
+// The prefixes that are withdrawn in these octets, and by MP_UNREACH_NLRI.
 fn withdrawn_in(
     alloc: Global,
-    agreed: Agreed,
     octets: &[u8],
-    attributes: &[u8],
+    mp_unreach: Option<&[u8]>,
 ) -> Result<List<Nlri>, NoMemory>
-    requires formed { AreFormed agreed (pieces attribute_size attributes.now) }
     requires good { bad_prefix V4 0 octets.now ≡ None }
-    ensures { IfOk result (λ names. map nlri_view names ≡ prefixes_in V4 octets.now ++ names_unreached (value_in 15 (pieces attribute_size attributes.now))) }
+    requires mp_unreach { IfSome mp_unreach (λ value. is_unreach value.now ≡ true) }
+    ensures { IfOk result (λ names. map nlri_view names ≡ prefixes_in V4 octets.now ++ names_unreached (option_copied mp_unreach.entry)) }
 {
-    let mut names = List::new(alloc);
+    let mut names = Vec::new(alloc);
     read_prefixes(Family::V4, octets, &mut names)?;
-    if let Some(value) = value_in(MP_UNREACH_NLRI, attributes) {
+    if let Some(value) = mp_unreach {
         read_unreached(value, &mut names)?;
     }
-    Ok(names)
+    Ok(List::from_vec(names))
 }
 
 // Appends the routes to the prefixes behind the attributes.
 fn read_behind(
-    agreed: Agreed,
     octets: &[u8],
-    attributes: &[u8],
-    announced: &mut List<Announce>,
+    next_hop: Option<&[u8]>,
+    announced: &mut Vec<Announce>,
 ) -> Result<(), NoMemory>
-    requires formed { AreFormed agreed (pieces attribute_size attributes.now) }
     requires good { bad_prefix V4 0 octets.now ≡ None }
-    ensures { OnOk result (map route_view announced.new ≡ map route_view announced.old ++ routes_behind (value_in 3 (pieces attribute_size attributes.now)) octets.now) }
+    requires next_hop { IfSome next_hop (λ value. length value.now ≡ 4) }
+    ensures { OnOk result (map route_view announced.new.items ≡ map route_view announced.old.items ++ routes_behind (option_copied next_hop.entry) octets.now) }
 {
-    let Some(hop) = number_in(agreed, NEXT_HOP, attributes) else {
+    let Some(hop) = number_in(next_hop) else {
         return Ok(());
     };
     read_routes(Family::V4, Addr::V4(hop), octets, announced)
@@ -299,36 +288,37 @@ fn read_behind(
 
 // Appends the routes of MP_REACH_NLRI.
 fn read_multiprotocol(
-    agreed: Agreed,
-    attributes: &[u8],
-    announced: &mut List<Announce>,
+    mp_reach: Option<&[u8]>,
+    announced: &mut Vec<Announce>,
 ) -> Result<(), NoMemory>
-    requires { AreFormed agreed (pieces attribute_size attributes.now) }
-    ensures { OnOk result (map route_view announced.new ≡ map route_view announced.old ++ routes_reached (value_in 14 (pieces attribute_size attributes.now))) }
+    requires { IfSome mp_reach (λ value. is_reach value.now ≡ true) }
+    ensures { OnOk result (map route_view announced.new.items ≡ map route_view announced.old.items ++ routes_reached (option_copied mp_reach.entry)) }
 {
-    let Some(value) = value_in(MP_REACH_NLRI, attributes) else {
+    let Some(value) = mp_reach else {
         return Ok(());
     };
     read_reached(value, announced)
 }
 
-/// What an UPDATE without a fault says.
+/// What an UPDATE of these parts says.
 #[tactic(auto, unfolding(crate::specs::Updates::said))]
-pub(crate) fn read_update(alloc: Global, agreed: Agreed, octets: &[u8]) -> Result<Update, NoMemory>
-    requires whole { 23 ≤ length octets.now }
-    requires good { update_fault agreed octets.now ≡ None }
-    ensures { IfOk result (λ update. update_view update ≡ said agreed octets.now) }
+pub(crate) fn read_update(
+    alloc: Global,
+    agreed: Agreed,
+    parts: &Parts<'_>,
+) -> Result<Update, NoMemory>
+    requires { CanBeRead agreed parts.now }
+    ensures { (octets : List ℕ) → AreParts octets parts.now → IfOk result (λ update. update_view update ≡ said agreed octets) }
 {
-    let attributes = attributes(octets);
-    let attrs = attrs_of(alloc, agreed, attributes)?;
-    let withdrawn = withdrawn_in(alloc, agreed, withdrawn(octets), attributes)?;
-    let mut announced = List::new(alloc);
-    let behind = after(octets, announced_place(octets));
-    read_behind(agreed, behind, attributes, &mut announced)?;
-    read_multiprotocol(agreed, attributes, &mut announced)?;
+    let values = &parts.values;
+    let attrs = attrs_of(alloc, agreed, values)?;
+    let withdrawn = withdrawn_in(alloc, parts.withdrawn, values.mp_unreach)?;
+    let mut announced = Vec::new(alloc);
+    read_behind(parts.announced, values.next_hop, &mut announced)?;
+    read_multiprotocol(values.mp_reach, &mut announced)?;
     Ok(Update {
         withdrawn,
-        announced,
+        announced: List::from_vec(announced),
         attrs,
     })
 }

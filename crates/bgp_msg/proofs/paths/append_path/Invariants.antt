@@ -5,7 +5,7 @@ use Rattle.bgp_msg.proofs.paths.append_path.Given as goal
 -- the hops so far and those of the rest are all of them
 abbrev pub invariant-loop-rest : goal.invariant-loop-rest
 invariant-loop-rest l = record {
-  all : l.hops ++ path_of l.wide l.rest ≡ l.fn.hops ++ path_of l.wide l.octets;
+  all : l.hops.items ++ path_of l.wide l.rest ≡ l.fn.hops.items ++ path_of l.wide l.octets;
   good : is_path l.wide l.rest ≡ true;
 }
 

@@ -14,7 +14,7 @@ pub loop-preserved : goal.loop-preserved
 loop-preserved c =
     let rest : c.after-rest.result.now ≡ drop (number_width c.args.wide) c.loop.rest.now = c.after-rest.ensures ∙ ap (λ (n : ℕ). drop n c.loop.rest.now) c.number_width.ensures in
     record {
-      all = rw (rest, c.in_ok-push.ensures.ok, append_assoc, c.number_at.ensures)
+      all = rw (rest, c.in_ok-push.ensures.items, append_assoc, c.number_at.ensures)
           (rw (numbers_next (number_width c.args.wide) c.args.count c.loop.counter c.loop.rest.now c.loop-test.true) at c.loop.invariant.all);
       room = rw rest (room_next (number_width c.args.wide) c.args.count c.loop.counter c.loop.rest.now c.loop-test.true c.loop.invariant.room).1;
     }

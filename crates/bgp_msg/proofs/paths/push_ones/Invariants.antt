@@ -7,6 +7,6 @@ use Rattle.bgp_msg.proofs.paths.push_ones.Given as goal
 -- the hops so far and those of the rest are all of them
 abbrev pub invariant-loop : goal.invariant-loop
 invariant-loop l = record {
-  all : l.hops ++ map One (numbers_of (number_width l.wide) (l.count - l.counter) l.rest) ≡ l.fn.hops ++ map One (numbers_of (number_width l.wide) l.count l.octets);
+  all : l.hops.items ++ map One (numbers_of (number_width l.wide) (l.count - l.counter) l.rest) ≡ l.fn.hops.items ++ map One (numbers_of (number_width l.wide) l.count l.octets);
   room : number_width l.wide * (l.count - l.counter) ≤ length l.rest;
 }

@@ -7,7 +7,7 @@ use Rattle.bgp_msg.proofs.prefixes.read_prefixes.Given as goal
 -- the prefixes so far and those of the rest are all of them
 abbrev pub invariant-loop-rest : goal.invariant-loop-rest
 invariant-loop-rest l = record {
-  all : map nlri_view l.names ++ prefixes_in l.family l.rest ≡ map nlri_view l.fn.names ++ prefixes_in l.family l.octets;
+  all : map nlri_view l.names.items ++ prefixes_in l.family l.rest ≡ map nlri_view l.fn.names.items ++ prefixes_in l.family l.octets;
   good : bad_prefix l.family 0 l.rest ≡ None;
 }
 

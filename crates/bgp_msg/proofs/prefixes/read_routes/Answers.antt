@@ -14,11 +14,11 @@ read_prefix-nlri-requires c =
 pub loop-rest-preserved : goal.loop-rest-preserved
 loop-rest-preserved c =
     record {
-      all = rw (c.in_ok-push.ensures.ok) (routes_next c.args.family c.args.next_hop c.prefix_size-size.result c.loop-rest.rest.now c.front.result.now c.behind-rest.result.now c.loop-rest.announced c.read_prefix-nlri.result
+      all = rw (c.in_ok-push.ensures.items) (routes_next c.args.family c.args.next_hop c.prefix_size-size.result c.loop-rest.rest.now c.front.result.now c.behind-rest.result.now c.loop-rest.announced.items c.read_prefix-nlri.result
           c.loop-rest-test.ensures c.prefix_size-size.ensures.size c.front.ensures.piece c.behind-rest.ensures.rest c.read_prefix-nlri.ensures ∙ c.loop-rest.invariant.all);
       good = (good_first c.args.family c.prefix_size-size.result c.loop-rest.rest.now c.front.result.now c.behind-rest.result.now c.loop-rest-test.ensures
           c.prefix_size-size.ensures.size c.front.ensures.piece c.behind-rest.ensures.rest c.loop-rest.invariant.good).1;
     }
 
 pub returns : goal.returns
-returns c = routes_end c.args.family c.args.next_hop c.loop-rest.announced c.loop-rest.rest.now c.loop-rest-test.ensures ∙ c.loop-rest.invariant.all
+returns c = routes_end c.args.family c.args.next_hop c.loop-rest.announced.items c.loop-rest.rest.now c.loop-rest-test.ensures ∙ c.loop-rest.invariant.all

@@ -8,7 +8,7 @@ use Rattle.bgp_msg.proofs.prefixes.read_routes.Given as goal
 -- the routes so far and those of the rest are all of them
 abbrev pub invariant-loop-rest : goal.invariant-loop-rest
 invariant-loop-rest l = record {
-  all : map route_view l.announced ++ routes l.next_hop (prefixes_in l.family l.rest) ≡ map route_view l.fn.announced ++ routes l.next_hop (prefixes_in l.family l.octets);
+  all : map route_view l.announced.items ++ routes l.next_hop (prefixes_in l.family l.rest) ≡ map route_view l.fn.announced.items ++ routes l.next_hop (prefixes_in l.family l.octets);
   good : bad_prefix l.family 0 l.rest ≡ None;
 }
 
