@@ -79,4 +79,4 @@ no_place None h = refl
 no_place (Some place) h = absurd (cc)
 
 pub can_be_read : (place : ℕ) (octets : List ℕ) → prefix_fault (bad_prefix V4 place octets) ≡ None → bad_prefix V4 0 octets ≡ None
-can_be_read place octets h = good_anywhere V4 place octets (no_place (bad_prefix V4 place octets) h)
+can_be_read place octets h = good_anywhere V4 place 0 octets (no_place (bad_prefix V4 place octets) h)

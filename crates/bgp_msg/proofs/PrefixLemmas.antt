@@ -46,14 +46,34 @@ any_place family place other (prefix ∷ prefixes) h =
     let good = if_good (is_bad family prefix) place _ h in
     rw good.0 (any_place family (place + length prefix) (other + length prefix) prefixes good.1)
 
+-- where the list stands further on, so does its bad prefix
+further : (family : Family) (start place found : ℕ) (prefixes : List (List ℕ)) → first_bad family place prefixes ≡ Some found → first_bad family (start + place) prefixes ≡ Some (start + found)
+further family start place found [] h = absurd (cc)
+further family start place found (prefix ∷ prefixes) h =
+    let sum : start + place + length prefix ≡ start + (place + length prefix) = omega arith in
+    by (is_bad family prefix) refl
+    (λ behind. ap (λ (n : ℕ). first_bad family n prefixes) sum ∙ further family start (place + length prefix) found prefixes behind) h
+  where
+    by : (bad : Bool) → is_bad family prefix ≡ bad
+        → (first_bad family (place + length prefix) prefixes ≡ Some found → first_bad family (start + place + length prefix) prefixes ≡ Some (start + found))
+        → (if bad then Some place else first_bad family (place + length prefix) prefixes) ≡ Some found
+        → (if bad then Some (start + place) else first_bad family (start + place + length prefix) prefixes) ≡ Some (start + found)
+    by true is others h = let same : place ≡ found = cc in ap (λ (n : ℕ). Some (start + n)) same
+    by false is others h = others h
+
+pub bad_further : (family : Family) (start found : ℕ) (octets : List ℕ) → bad_prefix family 0 octets ≡ Some found → bad_prefix family start octets ≡ Some (start + found)
+bad_further family start found octets h =
+    let first : start + 0 ≡ start = omega arith in
+    sym (ap (λ (n : ℕ). first_bad family n (pieces prefix_size octets)) first) ∙ further family start 0 found (pieces prefix_size octets) h
+
 pub good_first : (family : Family) (n : ℕ) (octets prefix rest : List ℕ) → false ≡ (length octets == 0) → n ≡ prefix_size octets → prefix ≡ take n octets → rest ≡ drop n octets
     → bad_prefix family 0 octets ≡ None → (is_bad family prefix ≡ false) × (bad_prefix family 0 rest ≡ None)
 good_first family n octets prefix rest h is front behind good =
     let there = if_good (is_bad family prefix) 0 _ (rw (pieces_next prefix_size n octets prefix rest has_size h is front behind) at good) in
     (there.0, any_place family (0 + length prefix) 0 (pieces prefix_size rest) there.1)
 
-pub good_anywhere : (family : Family) (place : ℕ) (octets : List ℕ) → bad_prefix family place octets ≡ None → bad_prefix family 0 octets ≡ None
-good_anywhere family place octets h = any_place family place 0 (pieces prefix_size octets) h
+pub good_anywhere : (family : Family) (place other : ℕ) (octets : List ℕ) → bad_prefix family place octets ≡ None → bad_prefix family other octets ≡ None
+good_anywhere family place other octets h = any_place family place other (pieces prefix_size octets) h
 
 pub prefixes_next : (family : Family) (n : ℕ) (octets prefix rest : List ℕ) → false ≡ (length octets == 0) → n ≡ prefix_size octets → prefix ≡ take n octets → rest ≡ drop n octets
     → prefixes_in family octets ≡ named family prefix ∷ prefixes_in family rest

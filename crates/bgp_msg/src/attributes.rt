@@ -130,7 +130,6 @@ pub(crate) fn type_of(attribute: &[u8]) -> u8
 
 #[tactic(auto, unfolding(crate::specs::Attributes::form_fault))]
 fn form_fault(agreed: Agreed, form: Form, value: &[u8]) -> Option<u8>
-    requires { length value.now ≤ 4096 }
     ensures { result ≡ form_fault agreed form value.now }
 {
     let (good, subcode) = match form {
@@ -147,8 +146,7 @@ fn form_fault(agreed: Agreed, form: Form, value: &[u8]) -> Option<u8>
 }
 
 fn rule_fault(agreed: Agreed, attribute: &[u8]) -> Option<u8>
-    requires some { 1 ≤ length attribute.now }
-    requires short { length attribute.now ≤ 4096 }
+    requires { 1 ≤ length attribute.now }
     ensures { result ≡ rule_fault agreed attribute.now (rule_of (attribute_type attribute.now)) }
 {
     let class = attribute[0] / 64;
@@ -164,8 +162,7 @@ fn rule_fault(agreed: Agreed, attribute: &[u8]) -> Option<u8>
 // What is wrong with an attribute, of which is said whether its type came before.
 #[tactic(auto, unfolding(crate::specs::Attributes::attribute_fault))]
 fn attribute_fault(agreed: Agreed, again: bool, attribute: &[u8]) -> Option<u8>
-    requires some { 1 ≤ length attribute.now }
-    requires short { length attribute.now ≤ 4096 }
+    requires { 1 ≤ length attribute.now }
     ensures { (before : List ℕ) → again ≡ is_among (attribute_type attribute.now) before → result ≡ attribute_fault agreed before attribute.now }
 {
     if attribute.len() < attribute_size(attribute) || again {

@@ -6,7 +6,7 @@ ghost use Rattle.bgp_msg.specs.Families.{are_prefixes, family_of, hop_length, is
 ghost use Rattle.bgp_msg.specs.Routes.{routes};
 
 use crate::pieces::behind;
-use crate::prefixes::{bad_prefix, read_prefixes, read_routes};
+use crate::prefixes::{count_prefixes, read_prefixes, read_routes};
 use acct_types::numbers::{after, u16_at, u32_at, u128_at};
 use acct_types::{Addr, Announce, Nlri, NoMemory};
 
@@ -42,15 +42,13 @@ fn takes_hop(family: Family, size: u8) -> bool
 }
 
 fn are_prefixes(family: Family, octets: &[u8]) -> bool
-    requires { length octets.now ≤ 4096 }
     ensures { result ≡ are_prefixes family octets.now }
 {
-    bad_prefix(family, 0, octets).is_none()
+    count_prefixes(family, octets).is_ok()
 }
 
 #[tactic(auto, unfolding(crate::specs::Families::reaches))]
 fn reaches(family: Family, value: &[u8]) -> bool
-    requires { length value.now ≤ 4096 }
     ensures { result ≡ reaches family value.now }
 {
     if value.len() < 4 || !takes_hop(family, value[3]) {
@@ -63,7 +61,6 @@ fn reaches(family: Family, value: &[u8]) -> bool
 /// Whether a value is that of MP_REACH_NLRI: of a family that isn't kept, or whole.
 #[tactic(auto, unfolding(crate::specs::Families::is_reach))]
 pub(crate) fn is_reach(value: &[u8]) -> bool
-    requires { length value.now ≤ 4096 }
     ensures { result ≡ is_reach value.now }
 {
     if value.len() < 3 {
@@ -78,7 +75,6 @@ pub(crate) fn is_reach(value: &[u8]) -> bool
 /// Whether a value is that of MP_UNREACH_NLRI: of a family that isn't kept, or whole.
 #[tactic(auto, unfolding(crate::specs::Families::is_unreach))]
 pub(crate) fn is_unreach(value: &[u8]) -> bool
-    requires { length value.now ≤ 4096 }
     ensures { result ≡ is_unreach value.now }
 {
     if value.len() < 3 {
@@ -105,7 +101,7 @@ fn reach_hop(value: &[u8]) -> Addr
     }
 }
 
-/// Appends the routes that MP_REACH_NLRI announces.
+/// Appends the routes that MP_REACH_NLRI announces, with room made for all of them at once.
 #[tactic(auto, unfolding(crate::specs::Families::reaches, crate::specs::Families::is_reach, crate::specs::Families::reached))]
 pub(crate) fn read_reached(value: &[u8], announced: &mut Vec<Announce>) -> Result<(), NoMemory>
     requires { is_reach value.now ≡ true }
@@ -114,11 +110,12 @@ pub(crate) fn read_reached(value: &[u8], announced: &mut Vec<Announce>) -> Resul
     let Some(family) = family_of(value) else {
         return Ok(());
     };
-    let place = 5 + usize::from(value[3]);
-    read_routes(family, reach_hop(value), after(value, place), announced)
+    let prefixes = after(value, 5 + usize::from(value[3]));
+    announced.reserve(count_prefixes(family, prefixes).unwrap_or(0))?;
+    read_routes(family, reach_hop(value), prefixes, announced)
 }
 
-/// Appends the prefixes that MP_UNREACH_NLRI withdraws.
+/// Appends the prefixes that MP_UNREACH_NLRI withdraws, with room made for all of them at once.
 #[tactic(auto, unfolding(crate::specs::Families::is_unreach, crate::specs::Families::unreached))]
 pub(crate) fn read_unreached(value: &[u8], withdrawn: &mut Vec<Nlri>) -> Result<(), NoMemory>
     requires { is_unreach value.now ≡ true }
@@ -127,7 +124,9 @@ pub(crate) fn read_unreached(value: &[u8], withdrawn: &mut Vec<Nlri>) -> Result<
     let Some(family) = family_of(value) else {
         return Ok(());
     };
-    read_prefixes(family, after(value, 3), withdrawn)
+    let prefixes = after(value, 3);
+    withdrawn.reserve(count_prefixes(family, prefixes).unwrap_or(0))?;
+    read_prefixes(family, prefixes, withdrawn)
 }
 
 /// Whether MP_REACH_NLRI announces a prefix.

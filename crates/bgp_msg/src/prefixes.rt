@@ -1,8 +1,7 @@
 //! Lists of prefixes (RFC 4271, 4.3).
 
-ghost use Rattle.std.specs.Prelude.{◌≡◌, ◌≤◌, ◌<◌, ◌+◌, ◌++◌, length, map, OnOk, OnErr, IfSome, None, false};
+ghost use Rattle.std.specs.Prelude.{◌≡◌, ◌≤◌, ◌<◌, ◌+◌, ◌++◌, length, map, IfErr, IfOk, OnOk, None, Some, false};
 ghost use Rattle.acct_types.specs.Updates.{nlri_view, route_view};
-ghost use Rattle.bgp_msg.specs.Pieces.{pieces};
 ghost use Rattle.bgp_msg.specs.Prefixes.{address_of, bad_prefix, bits_of, filled, is_bad, named, prefix_size, prefixes_in, width};
 ghost use Rattle.bgp_msg.specs.Routes.{routes};
 
@@ -37,23 +36,27 @@ fn is_bad(family: Family, prefix: &[u8]) -> bool
     prefix[0] > width(family) || prefix.len() < prefix_size(prefix)
 }
 
-/// The place of the first prefix that is longer than an address or cut, in octets of which the first has this place.
-pub(crate) fn bad_prefix(family: Family, start: u32, octets: &[u8]) -> Option<u32>
-    requires { start + length octets.now ≤ 4096 }
-    ensures { result ≡ bad_prefix family start octets.now }
+/// How many prefixes a list has, or where the first stands in it that is longer than an address or cut.
+pub(crate) fn count_prefixes(family: Family, octets: &[u8]) -> Result<usize, usize>
+    ensures good { IfOk result (λ _. bad_prefix family 0 octets.now ≡ None) }
+    ensures count { IfOk result (λ count. count ≡ length (prefixes_in family octets.now)) }
+    ensures bad { IfErr result (λ place. bad_prefix family 0 octets.now ≡ Some place) }
+    ensures within { IfErr result (λ place. place ≤ length octets.now) }
 {
-    let mut place = start;
+    let mut count = 0;
+    let mut place = 0;
     let mut rest = octets;
     while !rest.is_empty() {
         let size = prefix_size(rest);
         let prefix = front(rest, size);
         if is_bad(family, prefix) {
-            return Some(place);
+            return Err(place);
         }
-        place += prefix.len() as u32;
+        count += 1;
+        place += prefix.len();
         rest = behind(rest, size);
     }
-    None
+    Ok(count)
 }
 
 // The first sixteen octets, and zeros behind them.
@@ -88,20 +91,7 @@ fn read_prefix(family: Family, prefix: &[u8]) -> Nlri
     Nlri { prefix, path_id: 0 }
 }
 
-// How many prefixes there are.
-fn prefix_count(octets: &[u8]) -> usize
-    ensures { result ≡ length (pieces prefix_size octets.now) }
-{
-    let mut count = 0;
-    let mut rest = octets;
-    while !rest.is_empty() {
-        count += 1;
-        rest = behind(rest, prefix_size(rest));
-    }
-    count
-}
-
-/// Appends the prefixes of a list of which none is bad, with room made for all of them at once.
+/// Appends the prefixes of a list of which none is bad.
 pub(crate) fn read_prefixes(
     family: Family,
     octets: &[u8],
@@ -110,7 +100,6 @@ pub(crate) fn read_prefixes(
     requires { bad_prefix family 0 octets.now ≡ None }
     ensures { OnOk result (map nlri_view names.new.items ≡ map nlri_view names.old.items ++ prefixes_in family octets.now) }
 {
-    names.reserve(prefix_count(octets))?;
     let mut rest = octets;
     while !rest.is_empty() {
         let size = prefix_size(rest);
@@ -120,7 +109,7 @@ pub(crate) fn read_prefixes(
     Ok(())
 }
 
-/// Appends a route to each prefix of a list of which none is bad, by this next hop, with room made for all of them at once.
+/// Appends a route to each prefix of a list of which none is bad, by this next hop.
 pub(crate) fn read_routes(
     family: Family,
     next_hop: Addr,
@@ -130,7 +119,6 @@ pub(crate) fn read_routes(
     requires { bad_prefix family 0 octets.now ≡ None }
     ensures { OnOk result (map route_view announced.new.items ≡ map route_view announced.old.items ++ routes next_hop (prefixes_in family octets.now)) }
 {
-    announced.reserve(prefix_count(octets))?;
     let mut rest = octets;
     while !rest.is_empty() {
         let size = prefix_size(rest);

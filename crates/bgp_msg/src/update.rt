@@ -13,19 +13,22 @@ ghost use Rattle.bgp_msg.specs.declared.families.Family.TheVariants.{V4};
 use crate::attributes::{fault, read_attributes};
 use crate::families::{Family, reaches_some, read_reached, read_unreached};
 use crate::paths::{append_path, hop_count, is_path, read_numbers, read_path};
-use crate::prefixes::{bad_prefix, read_prefixes, read_routes};
+use crate::prefixes::{count_prefixes, read_prefixes, read_routes};
 use crate::values::Values;
 use crate::{Agreed, BgpFault};
 use acct_types::numbers::{after, u16_at, u32_at};
 use acct_types::{Addr, Announce, Hop, List, Nlri, NoMemory, RouteAttrs, Update};
 use std::alloc::Global;
 
-/// The parts of an UPDATE: the octets of the withdrawn prefixes, the values of its attributes, and the octets of the announced prefixes.
+/// The parts of an UPDATE: the octets of the withdrawn prefixes, the values of its attributes, and the octets of the announced prefixes;
+/// with the numbers of both kinds of prefix.
 #[derive(Clone, Copy)]
 pub(crate) struct Parts<'a> {
     withdrawn: &'a [u8],
+    withdrawn_count: usize,
     values: Values<'a>,
     announced: &'a [u8],
+    announced_count: usize,
 }
 
 #[tactic(auto, unfolding(crate::specs::Updates::lengths_fault))]
@@ -89,15 +92,16 @@ fn announced_place(octets: &[u8]) -> usize
     place + usize::from(u16_at(octets, place - 2))
 }
 
-// Whether a list of prefixes of IPv4, of which the first stands at this place, has none that is too long or cut.
-fn judge_prefixes(place: u32, octets: &[u8]) -> Result<(), BgpFault>
-    requires { place + length octets.now ≤ 4096 }
-    ensures good { OnOk result (prefix_fault (bad_prefix V4 place octets.now) ≡ None) }
-    ensures fault { IfErr result (λ fault. prefix_fault (bad_prefix V4 place octets.now) ≡ Some fault) }
+// How many prefixes a list of IPv4 has of which the first stands at this place, or the fault of the first that is too long or cut.
+fn judge_prefixes(start: u32, octets: &[u8]) -> Result<usize, BgpFault>
+    requires { start + length octets.now ≤ 4096 }
+    ensures good { IfOk result (λ _. prefix_fault (bad_prefix V4 start octets.now) ≡ None) }
+    ensures count { IfOk result (λ count. count ≡ length (prefixes_in V4 octets.now)) }
+    ensures fault { IfErr result (λ fault. prefix_fault (bad_prefix V4 start octets.now) ≡ Some fault) }
 {
-    match bad_prefix(Family::V4, place, octets) {
-        Some(place) => Err(fault(10, place)),
-        None => Ok(()),
+    match count_prefixes(Family::V4, octets) {
+        Ok(count) => Ok(count),
+        Err(place) => Err(fault(10, start + place as u32)),
     }
 }
 
@@ -134,18 +138,20 @@ fn judge(agreed: Agreed, octets: &[u8]) -> Result<Parts<'_>, BgpFault>
     ensures fault { IfErr result (λ fault. update_fault agreed octets.now ≡ Some fault) }
 {
     let withdrawn = withdrawn(octets);
-    judge_prefixes(21, withdrawn)?;
+    let withdrawn_count = judge_prefixes(21, withdrawn)?;
     let values = read_attributes(agreed, attributes_place(octets) as u32, attributes(octets))?;
     let place = announced_place(octets);
     let announced = after(octets, place);
-    judge_prefixes(place as u32, announced)?;
+    let announced_count = judge_prefixes(place as u32, announced)?;
     if lacks(&values, !announced.is_empty()) {
         return Err(fault(3, 19));
     }
     Ok(Parts {
         withdrawn,
+        withdrawn_count,
         values,
         announced,
+        announced_count,
     })
 }
 
@@ -252,17 +258,18 @@ fn attrs_of(alloc: Global, agreed: Agreed, values: &Values<'_>) -> Result<RouteA
     })
 }
 
-// The prefixes that are withdrawn in these octets, and by MP_UNREACH_NLRI.
+// The prefixes that are withdrawn in these octets, so many, and by MP_UNREACH_NLRI.
 fn withdrawn_in(
     alloc: Global,
     octets: &[u8],
+    count: usize,
     mp_unreach: Option<&[u8]>,
 ) -> Result<List<Nlri>, NoMemory>
     requires good { bad_prefix V4 0 octets.now ≡ None }
     requires mp_unreach { IfSome mp_unreach (λ value. is_unreach value.now ≡ true) }
     ensures { IfOk result (λ names. map nlri_view names ≡ prefixes_in V4 octets.now ++ names_unreached (option_copied mp_unreach.entry)) }
 {
-    let mut names = Vec::new(alloc);
+    let mut names = Vec::with_capacity(alloc, count)?;
     read_prefixes(Family::V4, octets, &mut names)?;
     if let Some(value) = mp_unreach {
         read_unreached(value, &mut names)?;
@@ -312,8 +319,13 @@ pub(crate) fn read_update(
 {
     let values = &parts.values;
     let attrs = attrs_of(alloc, agreed, values)?;
-    let withdrawn = withdrawn_in(alloc, parts.withdrawn, values.mp_unreach)?;
-    let mut announced = Vec::new(alloc);
+    let withdrawn = withdrawn_in(
+        alloc,
+        parts.withdrawn,
+        parts.withdrawn_count,
+        values.mp_unreach,
+    )?;
+    let mut announced = Vec::with_capacity(alloc, parts.announced_count)?;
     read_behind(parts.announced, values.next_hop, &mut announced)?;
     read_multiprotocol(values.mp_reach, &mut announced)?;
     Ok(Update {

@@ -23,14 +23,13 @@ pub(crate) struct Values<'a> {
     pub(crate) as4_path: Option<&'a [u8]>,
 }
 
-// The value that came before, or else the one that is here.
-fn or_here<'a>(before: Option<&'a [u8]>, is_here: bool, value: &'a [u8]) -> Option<&'a [u8]>
-    ensures { option_copied result ≡ option_or (option_copied before.entry) (if is_here then Some value.entry.now else None) }
+// The value that came before, or else this one.
+fn or_value<'a>(before: Option<&'a [u8]>, value: &'a [u8]) -> Option<&'a [u8]>
+    ensures { option_copied result ≡ option_or (option_copied before.entry) (Some value.entry.now) }
 {
-    if before.is_none() && is_here {
-        Some(value)
-    } else {
-        before
+    match before {
+        Some(_) => before,
+        None => Some(value),
     }
 }
 
@@ -56,16 +55,18 @@ impl<'a> Values<'a> {
         requires { 1 ≤ length attribute.now }
         ensures { Adds self.old attribute.now self.new }
     {
-        let kind = type_of(attribute);
         let value = value_of(attribute);
-        self.origin = or_here(self.origin, kind == ORIGIN, value);
-        self.as_path = or_here(self.as_path, kind == AS_PATH, value);
-        self.next_hop = or_here(self.next_hop, kind == NEXT_HOP, value);
-        self.med = or_here(self.med, kind == MULTI_EXIT_DISC, value);
-        self.local_pref = or_here(self.local_pref, kind == LOCAL_PREF, value);
-        self.communities = or_here(self.communities, kind == COMMUNITIES, value);
-        self.mp_reach = or_here(self.mp_reach, kind == MP_REACH_NLRI, value);
-        self.mp_unreach = or_here(self.mp_unreach, kind == MP_UNREACH_NLRI, value);
-        self.as4_path = or_here(self.as4_path, kind == AS4_PATH, value);
+        match type_of(attribute) {
+            ORIGIN => self.origin = or_value(self.origin, value),
+            AS_PATH => self.as_path = or_value(self.as_path, value),
+            NEXT_HOP => self.next_hop = or_value(self.next_hop, value),
+            MULTI_EXIT_DISC => self.med = or_value(self.med, value),
+            LOCAL_PREF => self.local_pref = or_value(self.local_pref, value),
+            COMMUNITIES => self.communities = or_value(self.communities, value),
+            MP_REACH_NLRI => self.mp_reach = or_value(self.mp_reach, value),
+            MP_UNREACH_NLRI => self.mp_unreach = or_value(self.mp_unreach, value),
+            AS4_PATH => self.as4_path = or_value(self.as4_path, value),
+            _ => {}
+        }
     }
 }
