@@ -1,6 +1,6 @@
 -- What the code keeps of an UPDATE (RFC 4271, 4.3) between its judgement and its reading.
-use Rattle.std.specs.Prelude.{ℕ, ◌≡◌, List, None}
-use Rattle.bgp_msg.specs.Prefixes.{bad_prefix}
+use Rattle.std.specs.Prelude.{ℕ, ◌≡◌, List, length, None}
+use Rattle.bgp_msg.specs.Prefixes.{bad_prefix, prefixes_in}
 use Rattle.bgp_msg.specs.Updates.{announced_octets, attributes_of, withdrawn_octets}
 use Rattle.bgp_msg.specs.Values.{HaveForms, Keeps}
 use Rattle.bgp_msg.specs.declared.families.Family.TheVariants.{V4}
@@ -13,8 +13,10 @@ pub record AreParts (octets : List ℕ) (parts : Parts) : Type 0 where
   pub values : Keeps parts.values (attributes_of octets)
   pub announced : parts.announced.now ≡ announced_octets octets
 
--- no prefix is bad, and each value has its form
+-- no prefix is bad, both lists are counted, and each value has its form
 pub record CanBeRead (agreed : Agreed) (parts : Parts) : Type 0 where
   pub withdrawn : bad_prefix V4 0 parts.withdrawn.now ≡ None
+  pub withdrawn_count : parts.withdrawn_count ≡ length (prefixes_in V4 parts.withdrawn.now)
   pub values : HaveForms agreed parts.values
   pub announced : bad_prefix V4 0 parts.announced.now ≡ None
+  pub announced_count : parts.announced_count ≡ length (prefixes_in V4 parts.announced.now)

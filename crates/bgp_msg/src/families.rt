@@ -111,6 +111,7 @@ pub(crate) fn read_reached(value: &[u8], announced: &mut Vec<Announce>) -> Resul
         return Ok(());
     };
     let prefixes = after(value, 5 + usize::from(value[3]));
+    // None of them is bad, so they are counted.
     announced.reserve(count_prefixes(family, prefixes).unwrap_or(0))?;
     read_routes(family, reach_hop(value), prefixes, announced)
 }

@@ -1,5 +1,5 @@
 //! BGP-4 messages (RFC 4271, 4760, 5492 and 6793): their frames, their reader, and the writers of what a speaker sends that announces
-//! no route.
+//! no route. The section "BGP" of docs/PROFILE.md says what is refused, and what is read of the rest.
 #![tactic(auto)]
 
 mod add_path;

@@ -11,7 +11,7 @@ use crate::{Agreed, BgpMessage, BgpRefusal};
 use std::alloc::Global;
 
 /// What a whole message says, read as was agreed. It is refused for what is wrong with its body first: code 2 for OPEN and code 3 for
-/// UPDATE (RFC 4271, 6.2 and 6.3), as docs/PROFILE.md lists them. NOTIFICATION and KEEPALIVE have no fault.
+/// UPDATE (RFC 4271, 6.2 and 6.3), as the section "BGP" of docs/PROFILE.md lists them. NOTIFICATION and KEEPALIVE have no fault.
 #[tactic(auto, unfolding(crate::specs::Messages::body_fault, crate::specs::Frames::framed, crate::specs::Frames::header_fault))]
 pub fn read_message(alloc: Global, octets: &[u8], agreed: &Agreed) -> Result<BgpMessage, BgpRefusal>
     requires { framed octets.now ≡ Ok (Some (length octets.now)) }

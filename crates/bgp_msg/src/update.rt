@@ -1,4 +1,4 @@
-//! UPDATE (RFC 4271, 4.3 and 6.3, and RFC 4760).
+//! UPDATE (RFC 4271, 4.3 and 6.3, and RFC 4760). Its parts are judged first, and then read.
 
 ghost use Rattle.std.specs.Prelude.{◌≡◌, ◌≤◌, ◌+◌, ◌++◌, ◌==◌, ℕ, List, length, map, not, option_copied, IfErr, IfOk, IfSome, OnOk, None, Some, true};
 ghost use Rattle.acct_types.specs.Updates.{nlri_view, route_view, update_view};

@@ -51,6 +51,8 @@ returns-clause-good c =
 pub returns-clause-readable : goal.returns-clause-readable
 returns-clause-readable c = record {
   withdrawn = can_be_read 21 c.withdrawn-withdrawn.result.now c.in_ok-withdrawn_count.ensures.good;
+  withdrawn_count = c.in_ok-withdrawn_count.ensures.count;
   values = c.in_ok-values.ensures.forms;
   announced = can_be_read _ c.after-announced.result.now c.in_ok-announced_count.ensures.good;
+  announced_count = c.in_ok-announced_count.ensures.count;
 }
