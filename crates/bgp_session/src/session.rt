@@ -62,11 +62,13 @@ fn has_passed(hold: u16, last: u64, moment: u64) -> bool
 impl Session {
     /// A session of a peer that has just connected, at a moment in milliseconds. This side has that BGP identifier and that hold time in
     /// seconds, 0 for none. Takes no memory.
+    #[tactic(auto, unfolding(crate::specs::Sessions::is_live))]
     pub fn new(alloc: Global, peer: Addr, local_id: u32, hold: u16, moment: u64) -> Session
         ensures peer { result.peer ≡ peer }
         ensures id { result.local.id ≡ local_id }
         ensures hold { result.local.hold ≡ hold }
         ensures moment { result.moment ≡ moment }
+        ensures live { is_live result ≡ true }
         ensures hears { HasHeard result [] }
     {
         Session {
