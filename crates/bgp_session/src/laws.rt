@@ -3,7 +3,7 @@
 ghost use Rattle.std.specs.Prelude.{◌≡◌, ℕ, Some, None, List as Sequence};
 ghost use Rattle.bgp_session.specs.Laws.{AreInOrder, ComeTogether, Grows, IsOver, StandAlike};
 ghost use Rattle.bgp_session.specs.Lives.{closed_by, heard};
-ghost use Rattle.bgp_session.specs.Moments.{Piece, joined};
+ghost use Rattle.bgp_session.specs.Moments.{Piece, expired_at, joined};
 ghost use Rattle.bgp_session.specs.Sessions.{HasHeard, SessionState, has_expired};
 ghost use Rattle.bgp_session.specs.declared.progress.Local.{Local};
 ghost use Rattle.bgp_session.specs.declared.why.Why.{Why};
@@ -32,4 +32,10 @@ pub fn pieces_join()
         → one.local ≡ other.local → joined pieces ≡ joined others → ComeTogether pieces others → (moment : ℕ) → has_expired one moment ≡ has_expired other moment }
     ensures others { (session : SessionState) (pieces others : Sequence Piece) → HasHeard session pieces
         → joined pieces ≡ joined others → ComeTogether pieces others → HasHeard session others }
+{}
+
+/// Whether a session is expired at a moment is by the pieces that it took.
+#[tactic(auto, using(crate::proofs::SessionLemmas::expired_by), unfolding(crate::specs::Sessions::HasHeard))]
+pub fn expiry_is_by_pieces()
+    ensures { (session : SessionState) (pieces : Sequence Piece) (moment : ℕ) → HasHeard session pieces → has_expired session moment ≡ expired_at session.local pieces moment }
 {}
