@@ -1,0 +1,38 @@
+use Rattle.std.proofs.Common.{◌≡◌, ◌∙◌, ◌++◌, ap, map, subst, refl}
+use Rattle.std.specs.Prelude.{Option, None, cond}
+use Rattle.std.specs.BTreeMap.{is_at}
+use Rattle.std.specs.Map.{lookup}
+use Rattle.std.specs.declared.cmp.Ordering.{Ordering}
+use Rattle.acct_types.specs.Updates.{message_view}
+use Rattle.acct_types.specs.declared.addr.Addr.{Addr}
+use Rattle.acct_types.specs.declared.route_event.Act.TheVariants.{Down}
+use Rattle.bgp_session.specs.declared.why.Why.{Why}
+use Rattle.bgp_session.specs.declared.why.Why.TheVariants.{PeerClosed}
+use Rattle.route_feed.specs.Told.{closures_for, resets_by}
+use Rattle.route_feed.proofs.SessionLemmas.{acted_end, always, are_of_updated, go_on_updated, in_order, on_ok}
+use Rattle.route_feed.proofs.sessions.go_down.Goals as goal
+
+pub returns-clause-go_on : goal.returns-clause-go_on
+returns-clause-go_on c =
+    let derived = in_order _ c.addresses_are_ordered.ensures.derived in
+    let before = c.args.sessions.now.entries in
+    let now = c.remove-before.new.self.entries in
+    let updated = subst (λ (cmp : Addr → Addr → Ordering). (other : Addr) → lookup (is_at (cmp other)) now ≡ cond (is_at (cmp c.args.address) other) None (lookup (is_at (cmp other)) before))
+    derived c.remove-before.ensures.updates.0 in
+    go_on_updated c.args.moment c.args.address None before now c.requires.go_on tt updated
+
+pub returns-clause-acted : goal.returns-clause-acted
+returns-clause-acted c = λ local lives h.
+    let derived = in_order _ c.addresses_are_ordered.ensures.derived in
+    let before = c.args.sessions.now.entries in
+    let now = c.remove-before.new.self.entries in
+    let updated = subst (λ (cmp : Addr → Addr → Ordering). (other : Addr) → lookup (is_at (cmp other)) now ≡ cond (is_at (cmp c.args.address) other) None (lookup (is_at (cmp other)) before))
+    derived c.remove-before.ensures.updates.0 in
+    let found = subst (λ (cmp : Addr → Addr → Ordering). c.remove-before.result ≡ lookup (is_at (cmp c.args.address)) before) derived c.remove-before.ensures.value in
+    let lives_now = are_of_updated local c.args.address None None before now lives h tt updated in
+    let reason = c.reason_of.ensures in
+    on_ok c.close.result (λ messages replies closures.
+    acted_end local c.args.moment c.args.address Down PeerClosed lives c.remove-before.result before now c.args.turn.now c.close.new.self (λ _. refl) (λ _. refl) (λ _. refl) h found lives_now
+    (messages ∙ ap (λ (reason : Option Why). map message_view c.args.turn.now.messages ++ resets_by c.args.moment c.args.address reason) reason) replies
+    (closures ∙ ap (λ (reason : Option Why). c.args.turn.now.closures ++ closures_for c.args.moment c.args.address reason) reason))
+    c.close.ensures.messages (always c.close.result c.close.ensures.replies) c.close.ensures.closures

@@ -1,0 +1,5 @@
+pub mod Events
+pub mod Lives
+pub mod Told
+pub mod Steps
+pub mod Routings
