@@ -3,3 +3,4 @@ pub mod Lives
 pub mod Told
 pub mod Steps
 pub mod Routings
+pub mod Laws

@@ -1,1 +1,38 @@
 //! Laws of the definitions.
+
+ghost use Rattle.std.specs.Prelude.{◌≡◌, ◌∷◌, [], true, false, List as Sequence, Some, None, filter, map};
+ghost use Rattle.acct_types.specs.declared.addr.Addr.{Addr};
+ghost use Rattle.acct_types.specs.declared.route_event.Act.TheVariants.{Down, Up};
+ghost use Rattle.acct_types.specs.declared.route_event.RouteEvent.{RouteEvent};
+ghost use Rattle.bgp_session.specs.declared.progress.Local.{Local};
+ghost use Rattle.route_feed.specs.Events.{is_of};
+ghost use Rattle.route_feed.specs.Laws.{AreToOthers, is_reset, reset_for};
+ghost use Rattle.route_feed.specs.Lives.{life_of};
+ghost use Rattle.route_feed.specs.Told.{closures_of, messages_of, replies_at, unexpired};
+ghost use Rattle.route_feed.specs.declared.daemons.Daemons.{Daemons};
+
+use acct_types::addresses_are_ordered;
+
+/// The resets among the messages are those of the sessions that end, one each, at that moment and in that order.
+pub fn ends_have_their_resets()
+    ensures { (daemons : Daemons) (local : Local) (events : Sequence RouteEvent)
+        → filter is_reset (messages_of daemons local events) ≡ map reset_for (closures_of daemons local events) }
+{}
+
+/// An event does nothing to the life of another session than to end it where its hold time has passed. An Up begins a life, whatever went before, and
+/// a Down leaves none.
+pub fn lives_are_their_own()
+    ensures others { (local : Local) (address : Addr) (event : RouteEvent) (earlier : Sequence RouteEvent) → is_of address event ≡ false
+        → life_of local (event ∷ earlier) address ≡ unexpired local event.moment (life_of local earlier address) }
+    ensures up { (local : Local) (address : Addr) (event : RouteEvent) (earlier : Sequence RouteEvent) → is_of address event ≡ true → event.act ≡ Up
+        → life_of local (event ∷ earlier) address ≡ Some [] }
+    ensures down { (local : Local) (address : Addr) (event : RouteEvent) (earlier : Sequence RouteEvent) → is_of address event ≡ true → event.act ≡ Down
+        → life_of local (event ∷ earlier) address ≡ None }
+{}
+
+/// No session is sent two replies at one event.
+pub fn replies_are_one_each()
+    ensures { (local : Local) (earlier : Sequence RouteEvent) (event : RouteEvent) → AreToOthers (replies_at local earlier event) }
+{
+    addresses_are_ordered();
+}
