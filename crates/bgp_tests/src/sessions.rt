@@ -7,35 +7,36 @@ use std::test::Fail;
 
 const PEER: Addr = Addr::V4(0xc000_0201);
 
-const LOCAL_ID: u32 = 0x7f00_0001;
+pub(crate) const LOCAL_ID: u32 = 0x7f00_0001;
 
 // Messages but for their marker: an OPEN of 64512 from 192.0.2.1 with a hold time of 180,
-const OPEN: &[u8] = b"\0\x25\x01\x04\xfc\0\0\xb4\xc0\0\x02\x01\x08\x02\x06\x41\x04\0\0\xfc\0";
+pub(crate) const OPEN: &[u8] =
+    b"\0\x25\x01\x04\xfc\0\0\xb4\xc0\0\x02\x01\x08\x02\x06\x41\x04\0\0\xfc\0";
 
-const KEEPALIVE: &[u8] = b"\0\x13\x04";
+pub(crate) const KEEPALIVE: &[u8] = b"\0\x13\x04";
 
 // an UPDATE of 10.0.0.0/8 by 192.0.2.9, with the path 64512 64513,
-const UPDATE: &[u8] =
+pub(crate) const UPDATE: &[u8] =
     b"\0\x31\x02\0\0\0\x18\x40\x01\x01\0\x40\x02\x0a\x02\x02\0\0\xfc\0\0\0\xfc\x01\x40\x03\x04\xc0\0\x02\x09\x08\x0a";
 
 // an UPDATE that says nothing,
-const EMPTY: &[u8] = b"\0\x17\x02\0\0\0\0";
+pub(crate) const EMPTY: &[u8] = b"\0\x17\x02\0\0\0\0";
 
 // one whose ORIGIN is cut,
-const BAD_UPDATE: &[u8] = b"\0\x1a\x02\0\0\0\x03\x40\x63\0";
+pub(crate) const BAD_UPDATE: &[u8] = b"\0\x1a\x02\0\0\0\x03\x40\x63\0";
 
 // an OPEN of version 3,
 const BAD_OPEN: &[u8] = b"\0\x1d\x01\x03\xfc\0\0\xb4\xc0\0\x02\x01\0";
 
 // Cease,
-const CEASE: &[u8] = b"\0\x15\x03\x06\x04";
+pub(crate) const CEASE: &[u8] = b"\0\x15\x03\x06\x04";
 
 // and what this side answers to the OPEN.
-const ANSWER: &[u8] =
+pub(crate) const ANSWER: &[u8] =
     b"\0\x31\x01\x04\xfc\0\0\xb4\x7f\0\0\x01\x14\x02\x12\x01\x04\0\x01\0\x01\x01\x04\0\x02\0\x01\x41\x04\0\0\xfc\0";
 
 // the NOTIFICATION of a marker that isn't all ones
-const BAD_MARKER: &[u8] = b"\0\x15\x03\x01\x01";
+pub(crate) const BAD_MARKER: &[u8] = b"\0\x15\x03\x01\x01";
 
 // What a session of pieces gave, all together.
 #[derive(Drop)]
