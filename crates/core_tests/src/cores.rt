@@ -176,10 +176,11 @@ fn run(alloc: Global, given: &Given) -> Result<Left, Fail> {
     }
     let mut flows = MemoryFlows::new(flows, List::from_slice(alloc, given.reads)?);
     let mut audit = MemorySink::new(alloc, 8, List::from_slice(alloc, given.audit_writes)?);
+    let hashing = same_hashing()?;
     let most = limits(given.most);
     let end = run_alone(
         alloc,
-        same_hashing()?,
+        hashing,
         &job,
         &mut flows,
         &mut NoRoutes::new(alloc),

@@ -216,8 +216,9 @@ fn run(
         return Ok(None);
     }
     let config = config(alloc, case)?;
+    let hashing = same_hashing().map_err(|_| NoMemory)?;
     let out = MemorySink::new(alloc, most, writes);
-    let Ok(mut plugin) = Plugin::start(alloc, same_hashing()?, &config, out) else {
+    let Ok(mut plugin) = Plugin::start(alloc, hashing, &config, out) else {
         return Err(NoMemory);
     };
     take_all(alloc, &mut plugin, case.items)?;

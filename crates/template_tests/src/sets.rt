@@ -39,8 +39,9 @@ fn decode_octets(alloc: Global, ipfix: bool, octets: &[u8]) -> Result<RawDecoded
         version,
         id: 77,
     };
-    let stores = Stores::new(alloc, same_hashing()?);
-    let mut staged = Staged::new(alloc, same_hashing()?);
+    let hashing = same_hashing().map_err(|_| NoMemory)?;
+    let stores = Stores::new(alloc, hashing);
+    let mut staged = Staged::new(alloc, hashing);
     let size = octets.len().min(65535);
     read_sets(alloc, &stores, &mut staged, &domain, &octets[..size])
 }
