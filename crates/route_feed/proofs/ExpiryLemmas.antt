@@ -42,6 +42,27 @@ module _ {K X : Type 0} (R : K → K → Ordering) (p : K × X → Bool) where
     | false ↦ sorted_filtered es sorted.1
   ]
 
+-- an address whose life is expired came up
+among : ((a b : Addr) → addr_cmp a b ≡ Equal → a ≡ b) → (moment : ℕ) (local : Local) (earlier : List RouteEvent) (address : Addr)
+    → (list_any (is_at (addr_cmp address)) (addresses_up earlier) && is_expired local moment (life_of local earlier address)) ≡ is_expired local moment (life_of local earlier address)
+unfolding life_of
+among equal moment local earlier address = by (since_up address earlier) (came_up equal address earlier) (list_any (is_at (addr_cmp address)) (addresses_up earlier)) refl
+  where
+    by : (since : Option (List RouteEvent)) → ((some : List RouteEvent) → since ≡ Some some → list_any (is_at (addr_cmp address)) (addresses_up earlier) ≡ true)
+        → (here : Bool) → list_any (is_at (addr_cmp address)) (addresses_up earlier) ≡ here
+        → (here && is_expired local moment (life_since local address since)) ≡ is_expired local moment (life_since local address since)
+    by None came true is = refl
+    by None came false is = refl
+    by (Some since) came true is = refl
+    by (Some since) came false is = cc (came since refl, is)
+
+-- whether an address is among those that are expired
+pub is_among : IsTotalOrder addr_cmp → ((a b : Addr) → addr_cmp a b ≡ Equal → a ≡ b) → (moment : ℕ) (local : Local) (earlier : List RouteEvent) (address : Addr)
+    → list_any (is_at (addr_cmp address)) (expired_behind local earlier moment) ≡ is_expired local moment (life_of local earlier address)
+is_among total equal moment local earlier address =
+    let test : Addr → Bool = λ address. is_expired local moment (life_of local earlier address) in
+    is_member-filter (eq_by_cmp_equiv total) test address (λ x at. ap test (tied equal address x at)) (addresses_up earlier) ∙ among equal moment local earlier address
+
 module _ (total : IsTotalOrder addr_cmp) (equal : (a b : Addr) → addr_cmp a b ≡ Equal → a ≡ b)
     (expiry : (session : SessionState) (pieces : List Piece) (moment : ℕ) → HasHeard session pieces → has_expired session moment ≡ expired_at session.local pieces moment)
     (moment : ℕ) (sessions : Sessions) (sorted : IsStrictlySortedBy addr_cmp (keys_of sessions)) where
@@ -79,30 +100,14 @@ module _ (total : IsTotalOrder addr_cmp) (equal : (a b : Addr) → addr_cmp a b 
       by (Some state) None of = absurd of
       by (Some state) (Some pieces) of = one state pieces (has_expired state moment) (expired_at local pieces moment) (expired_as local state pieces of) of
 
-  -- an address whose life is expired came up
-  among : (local : Local) (earlier : List RouteEvent) (address : Addr)
-      → (list_any (is_at (addr_cmp address)) (addresses_up earlier) && is_expired local moment (life_of local earlier address)) ≡ is_expired local moment (life_of local earlier address)
-  unfolding life_of
-  among local earlier address = by (since_up address earlier) (came_up equal address earlier) (list_any (is_at (addr_cmp address)) (addresses_up earlier)) refl
-    where
-      by : (since : Option (List RouteEvent)) → ((some : List RouteEvent) → since ≡ Some some → list_any (is_at (addr_cmp address)) (addresses_up earlier) ≡ true)
-          → (here : Bool) → list_any (is_at (addr_cmp address)) (addresses_up earlier) ≡ here
-          → (here && is_expired local moment (life_since local address since)) ≡ is_expired local moment (life_since local address since)
-      by None came true is = refl
-      by None came false is = refl
-      by (Some since) came true is = refl
-      by (Some since) came false is = cc (came since refl, is)
-
   same_expired : (local : Local) (earlier : List RouteEvent) → AreOf local sessions (life_of local earlier) → (address : Addr)
       → list_any (is_at (addr_cmp address)) (expired_of moment sessions) ≡ list_any (is_at (addr_cmp address)) (expired_behind local earlier moment)
   unfolding AreOf
   same_expired local earlier all address =
-      let test : Addr → Bool = λ address. is_expired local moment (life_of local earlier address) in
       sym (is_some-lookup (is_at (addr_cmp address)) (filter (λ entry. has_expired entry.1 moment) sessions))
       ∙ ap (λ (state : Option SessionState). is_some state) (filtered_at (λ session. has_expired session moment) address)
       ∙ by (session_at address sessions) (life_of local earlier address) (all address)
-      ∙ sym (among local earlier address)
-      ∙ sym (is_member-filter (eq_by_cmp_equiv total) test address (λ x at. ap test (tied equal address x at)) (addresses_up earlier))
+      ∙ sym (is_among total equal moment local earlier address)
     where
       one : (state : SessionState) (mine : Bool) → is_some (cond mine (Some state) None) ≡ mine
       one state true = refl

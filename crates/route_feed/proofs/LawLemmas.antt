@@ -1,6 +1,6 @@
 -- What the laws of the definitions rest on.
-use Rattle.std.proofs.Common.{◌≡◌, ◌∙◌, ◌≤◌, ◌++◌, ◌∷◌, [], ℕ, Bool, false, true, cond, List, refl, sym, ap, subst, arith, map, append-nil}
-use Rattle.std.specs.Prelude.{Option, Some, None, filter, ◌&&◌, if◌then◌else◌}
+use Rattle.std.proofs.Common.{◌≡◌, ◌∙◌, ◌++◌, ◌∷◌, [], ℕ, Bool, false, true, List, refl, sym, ap, subst, map, append-nil}
+use Rattle.std.specs.Prelude.{Option, Some, None, filter, if◌then◌else◌}
 use Rattle.std.specs.BTreeMap.{is_at}
 use Rattle.std.specs.Cmp.{IsTotalOrder, eq_by_cmp_equiv}
 use Rattle.std.specs.List.{IsDistinct, list_any}
@@ -10,7 +10,6 @@ use Rattle.std.proofs.lemmas.List.{map-append}
 use Rattle.std.proofs.lemmas.List.Elements.{filter-append}
 use Rattle.std.proofs.lemmas.List.Kept.{IsStrictlySortedBy-filter}
 use Rattle.std.proofs.lemmas.Map.Keys.{IsDistinct-from_sorted, IsDistinct-push}
-use Rattle.std.proofs.lemmas.Map.Made.{is_member-filter}
 use Rattle.acct_types.specs.Order.{addr_cmp}
 use Rattle.acct_types.specs.Updates.{Message, Said}
 use Rattle.acct_types.specs.declared.addr.Addr.{Addr}
@@ -25,10 +24,9 @@ use Rattle.route_feed.specs.Events.{events_on, is_bgp}
 use Rattle.route_feed.specs.Laws.{AreToOthers, is_reset, reset_for}
 use Rattle.route_feed.specs.Lives.{is_expired, life_of}
 use Rattle.route_feed.specs.Told.{addresses_up, answers_by, closure, closures_at, closures_by, closures_for, closures_in, closures_of, end_by, expired_behind, expiry_reply, found_by, messages_at, messages_by, messages_in, messages_of, replies_at, replies_by, reply_of, reset, resets_by, unexpired, update, updates_by}
-use Rattle.route_feed.specs.declared.closure.Closure.{Closure}
 use Rattle.route_feed.specs.declared.daemons.Daemons.{Daemons}
 use Rattle.route_feed.proofs.AddressLemmas.{addresses_sorted}
-use Rattle.route_feed.proofs.SessionLemmas.{tied}
+use Rattle.route_feed.proofs.ExpiryLemmas.{is_among}
 
 -- ---- each end has its reset
 
@@ -92,10 +90,6 @@ not_expired local earlier event before true found =
     found_unexpired local event.moment (life_of local earlier event.address) before (is_expired local event.moment (life_of local earlier event.address)) refl found
 not_expired local earlier event before false found = cc found
 
-and_false : (a b : Bool) → b ≡ false → (a && b) ≡ false
-and_false true b h = h
-and_false false b h = refl
-
 module _ (total : IsTotalOrder addr_cmp) (equal : (a b : Addr) → addr_cmp a b ≡ Equal → a ≡ b) where
   distinct_expired : (local : Local) (earlier : List RouteEvent) (moment : ℕ) → IsDistinct (eq_by_cmp addr_cmp) (expired_behind local earlier moment)
   distinct_expired local earlier moment =
@@ -119,7 +113,5 @@ module _ (total : IsTotalOrder addr_cmp) (equal : (a b : Addr) → addr_cmp a b 
           → IsDistinct (eq_by_cmp addr_cmp) (expired_behind local earlier event.moment ++ map (λ (reply : Reply). reply.to) (replies_by local event.address event.act found))
       by None is = subst (λ (addresses : List Addr). IsDistinct (eq_by_cmp addr_cmp) addresses) (sym (append-nil (expired_behind local earlier event.moment))) (distinct_expired local earlier event.moment)
       by (Some before) is =
-          let test : Addr → Bool = λ address. is_expired local event.moment (life_of local earlier address) in
           with_reply (expired_behind local earlier event.moment) event.address (answers_by local event.act before) (distinct_expired local earlier event.moment)
-          (is_member-filter (eq_by_cmp_equiv total) test event.address (λ x at. ap test (tied equal event.address x at)) (addresses_up earlier)
-          ∙ and_false (list_any (is_at (addr_cmp event.address)) (addresses_up earlier)) (test event.address) (not_expired local earlier event before (is_bgp event.side) is))
+          (is_among total equal event.moment local earlier event.address ∙ not_expired local earlier event before (is_bgp event.side) is)

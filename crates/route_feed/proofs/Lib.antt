@@ -2,6 +2,8 @@ pub mod AddressLemmas
 pub mod ExpiryLemmas
 pub mod HearingLemmas
 pub mod LawLemmas
+pub mod LearnedLemmas
 pub mod LifeLemmas
+pub mod MomentLemmas
 pub mod RoutingLemmas
 pub mod SessionLemmas

@@ -1,6 +1,6 @@
 -- A life behind one more event.
 use Rattle.std.proofs.Common.{◌≡◌, ◌∙◌, ◌++◌, ◌∷◌, [], ℕ, Bool, false, true, cond, List, refl, sym, ap}
-use Rattle.std.specs.Prelude.{Option, Some, None, is_some, option_map, ◌||◌, ◌&&◌, if◌then◌else◌}
+use Rattle.std.specs.Prelude.{unwrap_or, Option, Some, None, is_some, option_map, ◌||◌, ◌&&◌, if◌then◌else◌}
 use Rattle.acct_types.specs.declared.addr.Addr.{Addr}
 use Rattle.acct_types.specs.declared.route_event.Act.{Act}
 use Rattle.acct_types.specs.declared.route_event.Act.TheVariants.{Up, Bytes, Down, Tick}
@@ -37,6 +37,19 @@ still_open local address (event ∷ before) h =
     let expired = expired_at local (pieces_of address before) event.moment in
     let reason = closed_by (joined (pieces_of address (event ∷ before))) in
     no_reason reason (last_false (expired || down) (is_some reason) (last_false (is_over local address before) (expired || down || is_some reason) h))
+
+-- nor do those of a life that goes on
+pub life_open : (local : Local) (events : List RouteEvent) (address : Addr) (pieces : List Piece) → life_of local events address ≡ Some pieces → closed_by (joined pieces) ≡ None
+unfolding life_of
+life_open local events address pieces = by (since_up address events)
+  where
+    goes_on : (since : List RouteEvent) (over : Bool) → is_over local address since ≡ over → (if over then None else Some (pieces_of address since)) ≡ Some pieces → closed_by (joined pieces) ≡ None
+    goes_on since true is same = cc same
+    goes_on since false is same = ap (λ (life : Option (List Piece)). closed_by (joined (unwrap_or life []))) (sym same) ∙ still_open local address since is
+
+    by : (since : Option (List RouteEvent)) → life_since local address since ≡ Some pieces → closed_by (joined pieces) ≡ None
+    by None same = cc same
+    by (Some since) same = goes_on since (is_over local address since) refl same
 
 -- the pieces behind an event, by whether it is of the session
 abbrev pieces_if : ℕ → Act → Bool → List Piece → List Piece

@@ -5,13 +5,14 @@ ghost use Rattle.acct_types.specs.declared.addr.Addr.{Addr};
 ghost use Rattle.acct_types.specs.declared.route_event.Act.TheVariants.{Down, Up};
 ghost use Rattle.acct_types.specs.declared.route_event.RouteEvent.{RouteEvent};
 ghost use Rattle.bgp_session.specs.declared.progress.Local.{Local};
-ghost use Rattle.route_feed.specs.Events.{is_of};
-ghost use Rattle.route_feed.specs.Laws.{AreToOthers, is_reset, reset_for};
+ghost use Rattle.route_feed.specs.Events.{events_on, is_of};
+ghost use Rattle.route_feed.specs.Laws.{AreInOrder, AreToOthers, NeverFall, is_reset, learned_behind, learned_by, reset_for};
 ghost use Rattle.route_feed.specs.Lives.{life_of};
 ghost use Rattle.route_feed.specs.Told.{closures_of, messages_of, replies_at, unexpired};
 ghost use Rattle.route_feed.specs.declared.daemons.Daemons.{Daemons};
 
 use acct_types::addresses_are_ordered;
+use bgp_session::laws::answers_grow;
 
 /// The resets among the messages are those of the sessions that end, one each, at that moment and in that order.
 pub fn ends_have_their_resets()
@@ -28,6 +29,21 @@ pub fn lives_are_their_own()
         → life_of local (event ∷ earlier) address ≡ Some [] }
     ensures down { (local : Local) (address : Addr) (event : RouteEvent) (earlier : Sequence RouteEvent) → is_of address event ≡ true → event.act ≡ Down
         → life_of local (event ∷ earlier) address ≡ None }
+{}
+
+/// What the messages say of a session behind its last reset is what the octets of its life say, joined; it is nothing where no life goes on.
+pub fn messages_say_what_lives_say()
+    ensures { (daemons : Daemons) (local : Local) (events : Sequence RouteEvent) (address : Addr)
+        → learned_behind address [] (messages_of daemons local events) ≡ learned_by (life_of local (events_on daemons events) address) }
+{
+    addresses_are_ordered();
+    answers_grow();
+}
+
+/// Where the moments of events never fall, those of messages don't.
+pub fn moments_never_fall()
+    ensures { (daemons : Daemons) (local : Local) (events : Sequence RouteEvent) → AreInOrder events
+        → NeverFall 0 (map (λ message. message.moment) (messages_of daemons local events)) }
 {}
 
 /// No session is sent two replies at one event.

@@ -1,4 +1,4 @@
-use Rattle.std.proofs.Common.{◌∙◌, List, ap}
+use Rattle.std.proofs.Common.{◌∙◌, ap}
 use Rattle.acct_types.specs.declared.route_event.Act.{Act}
 use Rattle.route_feed.specs.Lives.{life_of}
 use Rattle.route_feed.specs.Steps.{life_after}
