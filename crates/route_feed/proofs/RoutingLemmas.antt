@@ -28,7 +28,7 @@ unfolding AllGoOn
 none_go_on moment sessions none = λ address. subst (λ (sessions : Sessions). GoesOnIf moment (session_at address sessions)) (sym none) tt
 
 module _ (daemons : Daemons) (event : RouteEvent) (earlier : List RouteEvent) where
-  off : is_on daemons event.side event.act ≡ false → events_on daemons (event ∷ earlier) ≡ events_on daemons earlier
+  pub off : is_on daemons event.side event.act ≡ false → events_on daemons (event ∷ earlier) ≡ events_on daemons earlier
   off is = ap (λ (b : Bool). cond b (event ∷ events_on daemons earlier) (events_on daemons earlier)) is
 
   on : is_on daemons event.side event.act ≡ true → events_on daemons (event ∷ earlier) ≡ event ∷ events_on daemons earlier

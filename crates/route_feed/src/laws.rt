@@ -5,14 +5,26 @@ ghost use Rattle.acct_types.specs.declared.addr.Addr.{Addr};
 ghost use Rattle.acct_types.specs.declared.route_event.Act.TheVariants.{Down, Up};
 ghost use Rattle.acct_types.specs.declared.route_event.RouteEvent.{RouteEvent};
 ghost use Rattle.bgp_session.specs.declared.progress.Local.{Local};
-ghost use Rattle.route_feed.specs.Events.{events_on, is_of};
+ghost use Rattle.route_feed.specs.Events.{events_on, is_of, is_on};
 ghost use Rattle.route_feed.specs.Laws.{AreInOrder, AreToOthers, NeverFall, is_reset, learned_behind, learned_by, reset_for};
 ghost use Rattle.route_feed.specs.Lives.{life_of};
-ghost use Rattle.route_feed.specs.Told.{closures_of, messages_of, replies_at, unexpired};
+ghost use Rattle.route_feed.specs.Told.{closures_of, messages_of, replies_at, replies_of, unexpired};
 ghost use Rattle.route_feed.specs.declared.daemons.Daemons.{Daemons};
 
 use acct_types::addresses_are_ordered;
 use bgp_session::laws::answers_grow;
+
+/// An event of a daemon that isn't on gives nothing, and changes nothing of what later ones give.
+pub fn daemons_that_are_off_are_not_heard()
+    ensures messages { (daemons : Daemons) (local : Local) (event : RouteEvent) (earlier : Sequence RouteEvent) → is_on daemons event.side event.act ≡ false
+        → messages_of daemons local (event ∷ earlier) ≡ messages_of daemons local earlier }
+    ensures replies { (daemons : Daemons) (local : Local) (event : RouteEvent) (earlier : Sequence RouteEvent) → is_on daemons event.side event.act ≡ false
+        → replies_of daemons local (event ∷ earlier) ≡ replies_of daemons local earlier }
+    ensures closures { (daemons : Daemons) (local : Local) (event : RouteEvent) (earlier : Sequence RouteEvent) → is_on daemons event.side event.act ≡ false
+        → closures_of daemons local (event ∷ earlier) ≡ closures_of daemons local earlier }
+    ensures later { (daemons : Daemons) (event : RouteEvent) (earlier : Sequence RouteEvent) → is_on daemons event.side event.act ≡ false
+        → events_on daemons (event ∷ earlier) ≡ events_on daemons earlier }
+{}
 
 /// The resets among the messages are those of the sessions that end, one each, at that moment and in that order.
 pub fn ends_have_their_resets()
